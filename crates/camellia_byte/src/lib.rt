@@ -1,6 +1,6 @@
 // The byte path: a half is eight bytes, and s1 is the only table.
 pub mod half;
-pub mod sbox;
+mod sbox;
 
 use camellia_rounds::cipher::Camellia;
 use half::ByteHalf;

@@ -1,4 +1,6 @@
 // The substitutions: s1 as a table, the other three by rotations.
+ghost use mathlib.Core.Path.{_≡_};
+ghost use Rattle.camellia.specs.Sbox.{s1 as sbox1, s2 as sbox2, s3 as sbox3, s4 as sbox4};
 
 const S1: [u8; 256] = [
     112,
@@ -259,18 +261,26 @@ const S1: [u8; 256] = [
     158,
 ];
 
-pub fn s1(x: u8) -> u8 {
+pub fn s1(x: u8) -> u8
+    ensures { λ r. ⌜ r ≡ sbox1 x ⌝ }
+{
     S1[x as usize]
 }
 
-pub fn s2(x: u8) -> u8 {
+pub fn s2(x: u8) -> u8
+    ensures { λ r. ⌜ r ≡ sbox2 x ⌝ }
+{
     s1(x).rotate_left(1)
 }
 
-pub fn s3(x: u8) -> u8 {
+pub fn s3(x: u8) -> u8
+    ensures { λ r. ⌜ r ≡ sbox3 x ⌝ }
+{
     s1(x).rotate_right(1)
 }
 
-pub fn s4(x: u8) -> u8 {
+pub fn s4(x: u8) -> u8
+    ensures { λ r. ⌜ r ≡ sbox4 x ⌝ }
+{
     s1(x.rotate_left(1))
 }

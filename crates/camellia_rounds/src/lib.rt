@@ -1,6 +1,9 @@
-// Camellia over any representation of a 64-bit half: the tables of subkeys, the key schedule, the rounds and the cipher.
+// Camellia over any form of a 64-bit half: the tables of subkeys, the key schedule, the rounds and the cipher.
 pub mod cipher;
+mod engine;
+mod expand;
 pub mod half;
-pub mod plan;
-pub mod rounds;
-pub mod schedule;
+pub mod parts;
+mod rounds;
+mod schedule;
+mod tables;

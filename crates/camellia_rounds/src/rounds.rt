@@ -1,60 +1,88 @@
-// The layers of the cipher on two halves, forward and backward.
+// The layers of the cipher on two halves, in order and in the reverse order.
+ghost use mathlib.Core.Path.{_≡_};
+ghost use Rattle.camellia.specs.Rounds.{run, step as stepOf, swapped as swappedOf, whitened as whitenedOf, turned, backward as backwardOf};
+ghost use Rattle.camellia.specs.declared.plan.Layer.the-variants.{Round, Fl};
+ghost use Rattle.camellia_rounds.specs.Told.{stateOf};
 use crate::half::Half;
-use crate::plan::Layer;
+use camellia::plan::Layer;
 
 #[derive(Clone, Copy)]
-pub struct State<H> {
+pub struct Halves<H> {
     pub left: H,
     pub right: H,
 }
 
-impl<H: Half> State<H> {
-    pub fn swapped(self) -> Self {
-        State {
+impl<H: Half> Halves<H> {
+    pub fn swapped(self) -> Self
+        ensures { λ r. ⌜ stateOf value r ≡ swappedOf (stateOf value self) ⌝ }
+    {
+        Halves {
             left: self.right,
             right: self.left,
         }
     }
 
-    pub fn whitened(self, a: u64, b: u64) -> Self {
-        State {
+    pub fn whitened(self, a: u64, b: u64) -> Self
+        ensures { λ r. ⌜ stateOf value r ≡ whitenedOf a b (stateOf value self) ⌝ }
+    {
+        Halves {
             left: self.left.xor(H::from_number(a)),
             right: self.right.xor(H::from_number(b)),
         }
     }
 
-    pub fn round(self, k: u64) -> Self {
-        State {
+    pub fn round(self, k: u64) -> Self
+        ensures { λ r. ⌜ stateOf value r ≡ stepOf (Round k) (stateOf value self) ⌝ }
+    {
+        Halves {
             left: self.right.xor(self.left.f(H::from_number(k))),
             right: self.left,
         }
     }
 
-    pub fn fl(self, a: u64, b: u64) -> Self {
-        State {
+    fn fl(self, a: u64, b: u64) -> Self
+        ensures { λ r. ⌜ stateOf value r ≡ stepOf (Fl a b) (stateOf value self) ⌝ }
+    {
+        Halves {
             left: self.left.fl(H::from_number(a)),
             right: self.right.fl_inverse(H::from_number(b)),
         }
     }
 
-    pub fn forward(self, layers: &[Layer<u64>]) -> Self {
+    fn step(self, layer: Layer<u64>) -> Self
+        ensures { λ r. ⌜ stateOf value r ≡ stepOf layer (stateOf value self) ⌝ }
+    {
+        match layer {
+            Layer::Round(k) => self.round(k),
+            Layer::Fl(a, b) => self.fl(a, b),
+        }
+    }
+
+    fn step_back(self, layer: Layer<u64>) -> Self
+        ensures { λ r. ⌜ stateOf value r ≡ stepOf (turned layer) (stateOf value self) ⌝ }
+    {
+        match layer {
+            Layer::Round(k) => self.round(k),
+            Layer::Fl(a, b) => self.fl(b, a),
+        }
+    }
+
+    pub fn forward(self, layers: &[Layer<u64>]) -> Self
+        ensures { λ r. ⌜ stateOf value r ≡ run (now (layers .entry)) (stateOf value self) ⌝ }
+    {
         let mut s = self;
         for layer in layers {
-            s = match *layer {
-                Layer::Round(k) => s.round(k),
-                Layer::Fl(a, b) => s.fl(a, b),
-            };
+            s = s.step(*layer);
         }
         s
     }
 
-    pub fn backward(self, layers: &[Layer<u64>]) -> Self {
+    pub fn backward(self, layers: &[Layer<u64>]) -> Self
+        ensures { λ r. ⌜ stateOf value r ≡ run (backwardOf (now (layers .entry))) (stateOf value self) ⌝ }
+    {
         let mut s = self;
-        for layer in layers.iter().rev() {
-            s = match *layer {
-                Layer::Round(k) => s.round(k),
-                Layer::Fl(a, b) => s.fl(b, a),
-            };
+        for i in (0..layers.len()).rev() {
+            s = s.step_back(layers[i]);
         }
         s
     }

@@ -1,6 +1,6 @@
 // Judges groups of test vectors: bytes in, lines out.
 use camellia_byte::ByteCamellia;
-use camellia_byte::half::ByteHalfHalf;
+use camellia_byte::half::OnBytes;
 use std::alloc::AllocError;
 use std::alloc::Global;
 
