@@ -34,7 +34,6 @@ pub record SmallKeys (w : Whitening ℕ) : Type 0 where
   pub lt4 : w .kw4 < 2 ^ 64
 
 step-small : (y : Layer ℕ) (s : State) → Small s → Small (step y s)
-unfolding step
 step-small (Round k) s p = record { left-lt = xor-lt 64 (s .right) (F (s .left) k) (p .right-lt) (F-lt (s .left) k); right-lt = p .left-lt }
 step-small (Fl a b) s p = record { left-lt = FL-lt (s .left) a (p .left-lt); right-lt = FLINV-lt (s .right) b (p .right-lt) }
 
@@ -92,13 +91,13 @@ joined-lt : (l r : ℕ) → l < 2 ^ 64 → r < 2 ^ 64 → joined l r < 2 ^ 128
 joined-lt l r hl hr = omega arith
 
 mixed-lt : (a b x : ℕ) → x < 2 ^ 128 → mixed a b x < 2 ^ 128
+unfolding mixed
 mixed-lt a b x h =
     let ys : List (Layer ℕ) = Round a ∷ Round b ∷ [] in
     let p : Small (run ys (halves x)) = run-small ys (halves x) (record { left-lt = leftHalf-lt x h; right-lt = rightHalf-lt x }) in
     joined-lt (run ys (halves x) .left) (run ys (halves x) .right) (p .left-lt) (p .right-lt)
 
 pub material-wide : (l r : ℕ) → l < 2 ^ 128 → r < 2 ^ 128 → Wide (material l r)
-unfolding material
 material-wide l r hl hr =
     let t : ℕ = mixed 0xA09E667F3BCC908B 0xB67AE8584CAA73B2 (bitXor l r) in
     let ht : t < 2 ^ 128 = mixed-lt 0xA09E667F3BCC908B 0xB67AE8584CAA73B2 (bitXor l r) (xor-lt 128 l r hl hr) in

@@ -47,7 +47,6 @@ FLINV-FL y k =
     rw (shr-high xl 32 xr h, mod-low xl 32 xr h, xor-back (rotl 32 1 (bitAnd xl a)) yr, xor-back (bitOr yr b) yl) (shr-split y 32)
 
 step-back : (y : Layer ℕ) (s : State) → step (turned y) (swapped (step y s)) ≡ swapped s
-unfolding step
 step-back (Round k) s = ap (λ t. st t (s .left)) (xor-off (s .right) (F (s .left) k))
 step-back (Fl a b) s = ap₂ st (FLINV-FL (s .right) b) (FL-FLINV (s .left) a)
 

@@ -10,13 +10,11 @@ use Rattle.camellia.proofs.Small.{SmallKeys, encrypt-small, reversed-small, sc
 use Rattle.camellia.proofs.Blocks.{state-back, block-back, block-small, toBytes-block}
 
 undone-by : (k : Schedule) (b : List ℕ) → SmallKeys (k .kw) → Block b → enciphered (reversed k) (enciphered k b) ≡ b
-unfolding enciphered
 undone-by k b h p =
     ap (λ s. toBytes (encrypt (reversed k) s)) (state-back (encrypt k (toState b)) (encrypt-small k (toState b) h (block-small b p)))
     ∙ ap toBytes (decrypt-encrypt k (toState b)) ∙ block-back b p
 
 pub undone : Undone
-unfolding deciphered
 undone = record {
   forth = λ key b h p. undone-by (schedule key) b (schedule-small key (h .bytes)) p;
   back = λ key b h p.
@@ -26,7 +24,6 @@ undone = record {
 }
 
 pub sized : Sized
-unfolding deciphered enciphered
 sized = record {
   enciphers = λ key b h p. toBytes-block (encrypt (schedule key) (toState b));
   deciphers = λ key b h p. toBytes-block (encrypt (reversed (schedule key)) (toState b));

@@ -14,10 +14,10 @@ toState b = st (halfAt b 0) (halfAt b 8)
 unfoldable pub toBytes : State → List ℕ
 toBytes s = bytes8 (s .left) ++ bytes8 (s .right)
 
-unfoldable pub enciphered : Schedule → List ℕ → List ℕ
+abbrev pub enciphered : Schedule → List ℕ → List ℕ
 enciphered s b = toBytes (encrypt s (toState b))
 
-unfoldable pub deciphered : Schedule → List ℕ → List ℕ
+abbrev pub deciphered : Schedule → List ℕ → List ℕ
 deciphered s b = enciphered (reversed s) b
 
 -- of a key and a block

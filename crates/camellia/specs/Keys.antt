@@ -43,11 +43,11 @@ keyR key =
     (cond (eqb (length key) 24) (withComplement (halfAt key 16)) (joined (halfAt key 16) (halfAt key 24)))
 
 -- two rounds under two constants
-abbrev pub mixed : ℕ → ℕ → ℕ → ℕ
+unfoldable pub mixed : ℕ → ℕ → ℕ → ℕ
 mixed a b x = let s = run (Round a ∷ Round b ∷ []) (halves x) in joined (s .left) (s .right)
 
 -- K_A and K_B under the constants Sigma1 to Sigma6
-unfoldable pub material : ℕ → ℕ → Material
+abbrev pub material : ℕ → ℕ → Material
 material l r =
     let t = mixed 0xA09E667F3BCC908B 0xB67AE8584CAA73B2 (l ⊕ r) in
     let a = mixed 0xC6EF372FE94F82BE 0x54FF53A5F1D36F1C (t ⊕ l) in

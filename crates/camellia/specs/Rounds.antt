@@ -19,7 +19,7 @@ swapped s = st (s .right) (s .left)
 abbrev pub whitened : ℕ → ℕ → State → State
 whitened a b s = st (s .left ⊕ a) (s .right ⊕ b)
 
-unfoldable pub step : Layer ℕ → State → State
+abbrev pub step : Layer ℕ → State → State
 step (Round k) s = st (s .right ⊕ F (s .left) k) (s .left)
 step (Fl a b) s = st (FL (s .left) a) (FLINV (s .right) b)
 

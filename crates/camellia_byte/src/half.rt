@@ -36,7 +36,7 @@ fn add(x: [u8; 8], y: [u8; 8]) -> [u8; 8]
 
 // S: bytes 1 to 8 go through s1, s2, s3, s4, s2, s3, s4, s1.
 fn substitute(x: [u8; 8]) -> [u8; 8]
-    ensures { λ r. ⌜ mixed r ≡ PS (halfAt x 0) ⌝ }
+    ensures { λ r. ⌜ halfAt (mixed r) 0 ≡ PS (halfAt x 0) ⌝ }
 {
     [
         s1(x[0]),
@@ -52,7 +52,7 @@ fn substitute(x: [u8; 8]) -> [u8; 8]
 
 // P: eight sums of bytes.
 fn mix(z: [u8; 8]) -> [u8; 8]
-    ensures { λ r. ⌜ halfAt r 0 ≡ mixed z ⌝ }
+    ensures { λ r. ⌜ r ≡ mixed z ⌝ }
 {
     [
         z[0] ^ z[2] ^ z[3] ^ z[5] ^ z[6] ^ z[7],

@@ -261,25 +261,25 @@ const S1: [u8; 256] = [
     158,
 ];
 
-pub fn s1(x: u8) -> u8
+pub(crate) fn s1(x: u8) -> u8
     ensures { λ r. ⌜ r ≡ sbox1 x ⌝ }
 {
     S1[x as usize]
 }
 
-pub fn s2(x: u8) -> u8
+pub(crate) fn s2(x: u8) -> u8
     ensures { λ r. ⌜ r ≡ sbox2 x ⌝ }
 {
     s1(x).rotate_left(1)
 }
 
-pub fn s3(x: u8) -> u8
+pub(crate) fn s3(x: u8) -> u8
     ensures { λ r. ⌜ r ≡ sbox3 x ⌝ }
 {
     s1(x).rotate_right(1)
 }
 
-pub fn s4(x: u8) -> u8
+pub(crate) fn s4(x: u8) -> u8
     ensures { λ r. ⌜ r ≡ sbox4 x ⌝ }
 {
     s1(x.rotate_left(1))

@@ -3,12 +3,10 @@ ghost use mathlib.Core.Bool.{true, false};
 ghost use mathlib.Core.Path.{_≡_};
 ghost use Prim.Native.Nat.{ℕ, _+_, _≤_};
 ghost use lib.ListN.{length, replicate};
-ghost use Rattle.std.specs.Results.{Cases};
 ghost use Rattle.camellia.specs.Numbers.{halfAt};
 ghost use Rattle.camellia.specs.Keys.{keyL, joined as joinedOf, schedule};
 ghost use Rattle.camellia.specs.Cipher.{toState, toBytes, E, D};
-ghost use Rattle.camellia.specs.Laws.{takes};
-ghost use Rattle.refusal.specs.declared.Refusal.the-variants.{KeyLength};
+ghost use Rattle.camellia.specs.Laws.{takes as takesOf};
 ghost use Rattle.camellia_rounds.specs.Told.{stateOf, scheduleOf, enciphers, deciphers, loadAnswer};
 use crate::cipher::Camellia;
 use crate::expand::expand_18;
@@ -44,18 +42,24 @@ fn halves_at(bytes: &[u8], at: usize) -> u128
     joined(half_at(bytes, at), half_at(bytes, at + 8))
 }
 
-fn schedule_of<H: Half>(key: &[u8]) -> Result<Schedule, Refusal>
-    ensures taken { λ r. ⌜ Cases r (λ _. takes (length (now (key .entry))) ≡ true) (λ _. takes (length (now (key .entry))) ≡ false) ⌝ }
-    ensures made { λ r. ⌜ Cases r (λ s. scheduleOf s ≡ schedule (now (key .entry))) (λ e. e ≡ KeyLength) ⌝ }
+// Whether a key of this length is taken.
+pub fn takes(len: usize) -> bool
+    ensures { λ r. ⌜ r ≡ takesOf len ⌝ }
+{
+    len == 16 || len == 24 || len == 32
+}
+
+fn schedule_of<H: Half>(key: &[u8]) -> Schedule
+    requires { ⌜ takesOf (length (now key)) ≡ true ⌝ }
+    ensures { λ r. ⌜ scheduleOf r ≡ schedule (now (key .entry)) ⌝ }
 {
     match key.len() {
-        16 => Ok(expand_18::<H>(halves_at(key, 0))),
+        16 => expand_18::<H>(halves_at(key, 0)),
         24 => {
             let last = half_at(key, 16);
-            Ok(expand_24::<H>(halves_at(key, 0), joined(last, !last)))
+            expand_24::<H>(halves_at(key, 0), joined(last, !last))
         }
-        32 => Ok(expand_24::<H>(halves_at(key, 0), halves_at(key, 16))),
-        _ => Err(Refusal::KeyLength),
+        _ => expand_24::<H>(halves_at(key, 0), halves_at(key, 16)),
     }
 }
 
@@ -83,36 +87,35 @@ impl<H: Half> Camellia<H> {
         ensures deciphers { λ r. ⌜ deciphers r ≡ D (replicate 16 0) ⌝ }
     {
         Camellia {
-            schedule: expand_18::<H>(0),
+            schedule: schedule_of::<H>(&[0; 16]),
             path: PhantomData,
         }
     }
 
     pub fn load(&mut self, key: &[u8]) -> Result<(), Refusal>
-        ensures answer { λ r. ⌜ r ≡ loadAnswer (takes (length (now (key .entry)))) ⌝ }
-        ensures refused { λ _. ⌜ (takes (length (now (key .entry))) ≡ false → now (self .exit) ≡ now (self .entry)) ⌝ }
-        ensures enciphers { λ _. ⌜ (takes (length (now (key .entry))) ≡ true → enciphers (now (self .exit)) ≡ E (now (key .entry))) ⌝ }
-        ensures deciphers { λ _. ⌜ (takes (length (now (key .entry))) ≡ true → deciphers (now (self .exit)) ≡ D (now (key .entry))) ⌝ }
+        ensures answer { λ r. ⌜ r ≡ loadAnswer (takesOf (length (now (key .entry)))) ⌝ }
+        ensures refused { λ _. ⌜ (takesOf (length (now (key .entry))) ≡ false → now (self .exit) ≡ now (self .entry)) ⌝ }
+        ensures enciphers { λ _. ⌜ (takesOf (length (now (key .entry))) ≡ true → enciphers (now (self .exit)) ≡ E (now (key .entry))) ⌝ }
+        ensures deciphers { λ _. ⌜ (takesOf (length (now (key .entry))) ≡ true → deciphers (now (self .exit)) ≡ D (now (key .entry))) ⌝ }
     {
-        self.schedule = schedule_of::<H>(key)?;
+        if !takes(key.len()) {
+            return Err(Refusal::KeyLength);
+        }
+        self.schedule = schedule_of::<H>(key);
         Ok(())
     }
 
     pub fn encipher(&self, block: &mut [u8; 16])
         ensures { λ _. ⌜ now (block .exit) ≡ enciphers (now (self .entry)) (now (block .entry)) ⌝ }
     {
-        let k = &self.schedule;
-        let s: Halves<H> = split(block).whitened(k.kw.kw1, k.kw.kw2);
-        let s = s.forward(k.layers()).swapped();
-        *block = join(s.whitened(k.kw.kw3, k.kw.kw4));
+        let halves: Halves<H> = split(block);
+        *block = join(halves.encrypted(&self.schedule));
     }
 
     pub fn decipher(&self, block: &mut [u8; 16])
         ensures { λ _. ⌜ now (block .exit) ≡ deciphers (now (self .entry)) (now (block .entry)) ⌝ }
     {
-        let k = &self.schedule;
-        let s: Halves<H> = split(block).whitened(k.kw.kw3, k.kw.kw4);
-        let s = s.backward(k.layers()).swapped();
-        *block = join(s.whitened(k.kw.kw1, k.kw.kw2));
+        let halves: Halves<H> = split(block);
+        *block = join(halves.decrypted(&self.schedule));
     }
 }

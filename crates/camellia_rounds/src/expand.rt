@@ -40,7 +40,7 @@ fn right(x: u128) -> u64
     (x & 0xffff_ffff_ffff_ffff) as u64
 }
 
-pub fn joined(left: u64, right: u64) -> u128
+pub(crate) fn joined(left: u64, right: u64) -> u128
     ensures { λ r. ⌜ r ≡ joinedOf left right ⌝ }
 {
     (left as u128) << 64 | right as u128
@@ -98,7 +98,7 @@ fn layer(m: &Material, slots: Layer<Slot>) -> Layer<u64>
 
 impl Schedule {
     // The key's layers.
-    pub fn layers(&self) -> &[Layer<u64>]
+    pub(crate) fn layers(&self) -> &[Layer<u64>]
         ensures { λ r. ⌜ now r ≡ scheduleOf (now (self .entry)) .layers ⌝ }
     {
         &self.layers[0..self.count]
@@ -127,7 +127,7 @@ fn expand(m: &Material, whitening: &Whitening<Slot>, slots: &[Layer<Slot>]) -> S
 }
 
 // The schedule of a 16-byte key.
-pub fn expand_18<H: Half>(kl: u128) -> Schedule
+pub(crate) fn expand_18<H: Half>(kl: u128) -> Schedule
     ensures { λ r. ⌜ scheduleOf r ≡ scheduled (materialOf kl 0) whitening18 layers18 ⌝ }
 {
     expand(
@@ -138,7 +138,7 @@ pub fn expand_18<H: Half>(kl: u128) -> Schedule
 }
 
 // The schedule of a 24- or 32-byte key.
-pub fn expand_24<H: Half>(kl: u128, kr: u128) -> Schedule
+pub(crate) fn expand_24<H: Half>(kl: u128, kr: u128) -> Schedule
     ensures { λ r. ⌜ scheduleOf r ≡ scheduled (materialOf kl kr) whitening24 layers24 ⌝ }
 {
     expand(

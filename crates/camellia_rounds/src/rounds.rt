@@ -1,9 +1,12 @@
 // The layers of the cipher on two halves, in order and in the reverse order.
+ghost use Rattle.camellia.specs.Keys.{reversed};
+ghost use Rattle.camellia.specs.Cipher.{encrypt as encryptOf};
 ghost use mathlib.Core.Path.{_≡_};
 ghost use Rattle.camellia.specs.Rounds.{run, step as stepOf, swapped as swappedOf, whitened as whitenedOf, turned, backward as backwardOf};
 ghost use Rattle.camellia.specs.declared.plan.Layer.the-variants.{Round, Fl};
-ghost use Rattle.camellia_rounds.specs.Told.{stateOf};
+ghost use Rattle.camellia_rounds.specs.Told.{stateOf, scheduleOf};
 use crate::half::Half;
+use crate::schedule::Schedule;
 use camellia::plan::Layer;
 
 #[derive(Clone, Copy)]
@@ -13,7 +16,7 @@ pub struct Halves<H> {
 }
 
 impl<H: Half> Halves<H> {
-    pub fn swapped(self) -> Self
+    pub(crate) fn swapped(self) -> Self
         ensures { λ r. ⌜ stateOf value r ≡ swappedOf (stateOf value self) ⌝ }
     {
         Halves {
@@ -22,7 +25,7 @@ impl<H: Half> Halves<H> {
         }
     }
 
-    pub fn whitened(self, a: u64, b: u64) -> Self
+    pub(crate) fn whitened(self, a: u64, b: u64) -> Self
         ensures { λ r. ⌜ stateOf value r ≡ whitenedOf a b (stateOf value self) ⌝ }
     {
         Halves {
@@ -31,7 +34,7 @@ impl<H: Half> Halves<H> {
         }
     }
 
-    pub fn round(self, k: u64) -> Self
+    pub(crate) fn round(self, k: u64) -> Self
         ensures { λ r. ⌜ stateOf value r ≡ stepOf (Round k) (stateOf value self) ⌝ }
     {
         Halves {
@@ -67,7 +70,7 @@ impl<H: Half> Halves<H> {
         }
     }
 
-    pub fn forward(self, layers: &[Layer<u64>]) -> Self
+    pub(crate) fn forward(self, layers: &[Layer<u64>]) -> Self
         ensures { λ r. ⌜ stateOf value r ≡ run (now (layers .entry)) (stateOf value self) ⌝ }
     {
         let mut s = self;
@@ -77,7 +80,7 @@ impl<H: Half> Halves<H> {
         s
     }
 
-    pub fn backward(self, layers: &[Layer<u64>]) -> Self
+    pub(crate) fn backward(self, layers: &[Layer<u64>]) -> Self
         ensures { λ r. ⌜ stateOf value r ≡ run (backwardOf (now (layers .entry))) (stateOf value self) ⌝ }
     {
         let mut s = self;
@@ -85,5 +88,19 @@ impl<H: Half> Halves<H> {
             s = s.step_back(layers[i]);
         }
         s
+    }
+
+    pub(crate) fn encrypted(self, k: &Schedule) -> Self
+        ensures { λ r. ⌜ stateOf value r ≡ encryptOf (scheduleOf (now (k .entry))) (stateOf value self) ⌝ }
+    {
+        let s = self.whitened(k.kw.kw1, k.kw.kw2).forward(k.layers());
+        s.swapped().whitened(k.kw.kw3, k.kw.kw4)
+    }
+
+    pub(crate) fn decrypted(self, k: &Schedule) -> Self
+        ensures { λ r. ⌜ stateOf value r ≡ encryptOf (reversed (scheduleOf (now (k .entry)))) (stateOf value self) ⌝ }
+    {
+        let s = self.whitened(k.kw.kw3, k.kw.kw4).backward(k.layers());
+        s.swapped().whitened(k.kw.kw1, k.kw.kw2)
     }
 }

@@ -75,25 +75,25 @@ static LAYERS_24: [Layer<Slot>; 27] = [
     Layer::Round(Slot::Right(Source::KL, 111)),
 ];
 
-pub fn whitening_18() -> &'static Whitening<Slot>
+pub(crate) fn whitening_18() -> &'static Whitening<Slot>
     ensures { λ r. ⌜ now r ≡ whitening18 ⌝ }
 {
     &WHITENING_18
 }
 
-pub fn layers_18() -> &'static [Layer<Slot>]
+pub(crate) fn layers_18() -> &'static [Layer<Slot>]
     ensures { λ r. ⌜ now r ≡ layers18 ⌝ }
 {
     &LAYERS_18
 }
 
-pub fn whitening_24() -> &'static Whitening<Slot>
+pub(crate) fn whitening_24() -> &'static Whitening<Slot>
     ensures { λ r. ⌜ now r ≡ whitening24 ⌝ }
 {
     &WHITENING_24
 }
 
-pub fn layers_24() -> &'static [Layer<Slot>]
+pub(crate) fn layers_24() -> &'static [Layer<Slot>]
     ensures { λ r. ⌜ now r ≡ layers24 ⌝ }
 {
     &LAYERS_24

@@ -5,9 +5,9 @@ use lib.ListN.{length, getD}
 use Rattle.std.proofs.shelf.Equals.{text-from-reads}
 use Rattle.camellia.specs.Sbox.{s1, s1table}
 use Rattle.camellia.specs.Functions.{P, PS, F, FL, FLINV}
-use Rattle.camellia.specs.Rounds.{step, run}
-use Rattle.camellia.specs.Keys.{keyR, material, schedule}
-use Rattle.camellia.specs.Cipher.{encrypt, toState, toBytes, enciphered}
+use Rattle.camellia.specs.Rounds.{run}
+use Rattle.camellia.specs.Keys.{keyR, mixed, schedule}
+use Rattle.camellia.specs.Cipher.{encrypt, toState, toBytes}
 use Rattle.samples.specs.Samples.{Samples, Substitutions, Halves, Complemented, Examples, rfcMiddle}
 use Rattle.samples.proofs.definitions_hold.Needs as need
 
@@ -22,7 +22,7 @@ unfolding keyR
 complemented front l = ap (λ (f : List ℕ). keyR (f ++ rfcMiddle) % 2 ^ 64) (sixteen front l)
 
 pub returns : need.returns
-unfolding s1 s1table P PS F FL FLINV step run keyR material schedule encrypt toState toBytes enciphered
+unfolding s1 s1table P PS F FL FLINV run keyR mixed schedule encrypt toState toBytes
 returns c = record {
   substitutions = record { first = refl; second = refl; third = refl; fourth = refl };
   halves = record { spread = refl; round = refl; ones = refl; top = refl; top-back = refl };

@@ -6,6 +6,7 @@ use Rattle.camellia.proofs.Bytes.{Eight, PS-join8}
 use Rattle.camellia_byte.proofs.half.substitute.Needs as need
 
 pub returns : need.returns
+unfolding P
 returns c =
     let x = c .args .x in
     let p : Eight (getD x 0 0) (getD x 1 0) (getD x 2 0) (getD x 3 0) (getD x 4 0) (getD x 5 0) (getD x 6 0) (getD x 7 0) = search needs in

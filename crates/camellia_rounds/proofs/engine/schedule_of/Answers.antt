@@ -2,7 +2,6 @@ use mathlib.Core.Path.{_≡_, sym, ap, ap₂, _∙_}
 use lib.ListN.{length}
 use borrow.Author.Needs.{needs}
 use Rattle.camellia.specs.Keys.{joined, withComplement, material, scheduled, whitening18, layers18, whitening24, layers24}
-use Rattle.camellia.specs.Laws.{takes}
 use Rattle.camellia.proofs.Schedules.{schedule-16, schedule-24, schedule-32}
 use Rattle.camellia_rounds.proofs.engine.schedule_of.Needs as need
 
@@ -10,33 +9,21 @@ pub returns-in-16 : need.returns-in-16
 returns-in-16 g c =
     let key = c .args .key .now in
     let n : length key ≡ 16 = search needs in
-    record {
-      taken = ap takes n;
-      made =
-          c .expand-18 .ensures ∙ ap (λ l. scheduled (material l 0) whitening18 layers18) (c .halves-at .ensures)
-          ∙ sym (schedule-16 key n);
-    }
+    c .expand-18 .ensures ∙ ap (λ l. scheduled (material l 0) whitening18 layers18) (c .halves-at .ensures)
+    ∙ sym (schedule-16 key n)
 
 pub returns-in-24 : need.returns-in-24
 returns-in-24 g c =
     let key = c .args .key .now in
     let n : length key ≡ 24 = search needs in
-    record {
-      taken = ap takes n;
-      made =
-          c .expand-24 .ensures
-          ∙ ap₂ (λ l r. scheduled (material l r) whitening24 layers24) (c .halves-at-in-24 .ensures) (c .joined .ensures ∙ ap withComplement (c .half-at-last .ensures))
-          ∙ sym (schedule-24 key n);
-    }
+    c .expand-24 .ensures
+    ∙ ap₂ (λ l r. scheduled (material l r) whitening24 layers24) (c .halves-at-in-24 .ensures) (c .joined .ensures ∙ ap withComplement (c .half-at-last .ensures))
+    ∙ sym (schedule-24 key n)
 
-pub returns-in-32 : need.returns-in-32
-returns-in-32 g c =
+pub returns-in-rest : need.returns-in-rest
+returns-in-rest g c =
     let key = c .args .key .now in
     let n : length key ≡ 32 = search needs in
-    record {
-      taken = ap takes n;
-      made =
-          c .expand-24-in-32 .ensures
-          ∙ ap₂ (λ l r. scheduled (material l r) whitening24 layers24) (c .halves-at-in-32 .ensures) (c .halves-at-in-32-2 .ensures)
-          ∙ sym (schedule-32 key n);
-    }
+    c .expand-24-in-rest .ensures
+    ∙ ap₂ (λ l r. scheduled (material l r) whitening24 layers24) (c .halves-at-in-rest .ensures) (c .halves-at-in-rest-2 .ensures)
+    ∙ sym (schedule-32 key n)

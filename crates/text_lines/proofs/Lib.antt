@@ -1,0 +1,3 @@
+pub mod OneLine
+pub mod OneHex
+mod Progress

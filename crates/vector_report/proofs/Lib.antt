@@ -1,0 +1,3 @@
+mod Reported
+mod Loads
+mod Shorter
