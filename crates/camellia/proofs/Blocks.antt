@@ -5,10 +5,10 @@ use mathlib.Core.List.{List, [], _∷_, _++_, map}
 use native.Mathlib.Omega.{arith}
 use lib.ListN.{length, getD}
 use Rattle.std.proofs.shelf.Equals.{text-from-reads}
-use Rattle.camellia.specs.Numbers.{join8, halfAt, bytes8, Bytes}
+use Rattle.engine.specs.Block.{Bytes, Block}
+use Rattle.camellia.specs.Numbers.{join8, halfAt, bytes8}
 use Rattle.camellia.specs.Rounds.{State, st}
 use Rattle.camellia.specs.Cipher.{toState, toBytes}
-use Rattle.camellia.specs.Laws.{Block}
 use Rattle.camellia.proofs.Small.{Small, halfAt-lt}
 
 pub number-bytes8 : (x : ℕ) → x < 2 ^ 64 → halfAt (bytes8 x) 0 ≡ x

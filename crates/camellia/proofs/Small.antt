@@ -8,7 +8,8 @@ use lib.Bits.{bitOr, bitXor, or-lt, xor-lt}
 use lib.Dec.{eqb}
 use lib.ListN.{length, getD}
 use Rattle.std.proofs.shelf.Bits.{shr-le}
-use Rattle.camellia.specs.Numbers.{rotl, Bytes, halfAt}
+use Rattle.engine.specs.Block.{Bytes}
+use Rattle.camellia.specs.Numbers.{rotl, halfAt}
 use Rattle.camellia.specs.Functions.{F}
 use Rattle.camellia.specs.Rounds.{State, st, step, run, swapped, whitened}
 use Rattle.camellia.specs.Keys.{joined, leftHalf, rightHalf, halves, mixed, material, from, subkey, keyL, keyR, Schedule, schedule, scheduled, reversed, whitening18, whitening24, layers18, layers24}

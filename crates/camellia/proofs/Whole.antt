@@ -2,9 +2,10 @@
 use mathlib.Core.Path.{_≡_, sym, ap, _∙_}
 use mathlib.Core.List.{List}
 use Prim.Native.Nat.{ℕ}
+use Rattle.engine.specs.Block.{Block}
 use Rattle.camellia.specs.Keys.{Schedule, schedule, reversed}
 use Rattle.camellia.specs.Cipher.{encrypt, toState, toBytes, enciphered, deciphered, E, D}
-use Rattle.camellia.specs.Laws.{Key, Block, Undone, Sized}
+use Rattle.camellia.specs.Laws.{Undone, Sized}
 use Rattle.camellia.proofs.Undo.{decrypt-encrypt, reversed-reversed}
 use Rattle.camellia.proofs.Small.{SmallKeys, encrypt-small, reversed-small, schedule-small}
 use Rattle.camellia.proofs.Blocks.{state-back, block-back, block-small, toBytes-block}

@@ -1,15 +1,10 @@
 -- What the types of the code stand for in the definition of the cipher.
 use Prim.Native.Nat.{ℕ}
-use mathlib.Core.Bool.{Bool, true, false}
 use mathlib.Core.List.{List}
 use lib.ListN.{take}
 use Rattle.camellia.specs.Rounds.{State, st}
 use Rattle.camellia.specs.Keys as camellia
 use Rattle.camellia.specs.Cipher.{enciphered, deciphered}
-use Rattle.std.specs.declared.result.Result.{Result}
-use Rattle.std.specs.declared.result.Result.the-variants.{Ok, Err}
-use Rattle.refusal.specs.declared.Refusal.{Refusal}
-use Rattle.refusal.specs.declared.Refusal.the-variants.{KeyLength}
 use Rattle.camellia_rounds.specs.declared.rounds.Halves.{Halves}
 use Rattle.camellia_rounds.specs.declared.schedule.Schedule.{Schedule}
 use Rattle.camellia_rounds.specs.declared.cipher.Camellia.{Camellia}
@@ -22,13 +17,8 @@ abbrev pub scheduleOf : Schedule → camellia.Schedule
 scheduleOf s = record { kw = s .kw; layers = take (s .count) (s .layers) }
 
 -- E and D of the key held
-abbrev pub enciphers : {H : Type 0} → Camellia H → List ℕ → List ℕ
-enciphers c = enciphered (scheduleOf (c .schedule))
+abbrev pub enciphersOf : {H : Type 0} → Camellia H → List ℕ → List ℕ
+enciphersOf c = enciphered (scheduleOf (c .schedule))
 
-abbrev pub deciphers : {H : Type 0} → Camellia H → List ℕ → List ℕ
-deciphers c = deciphered (scheduleOf (c .schedule))
-
--- a load answers by whether the key's length is taken
-abbrev pub loadAnswer : Bool → Result Unit Refusal
-loadAnswer true = Ok tt
-loadAnswer false = Err KeyLength
+abbrev pub deciphersOf : {H : Type 0} → Camellia H → List ℕ → List ℕ
+deciphersOf c = deciphered (scheduleOf (c .schedule))

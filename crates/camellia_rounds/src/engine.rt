@@ -1,13 +1,14 @@
 // The cipher under one key: load a key, encipher and decipher a block.
-ghost use mathlib.Core.Bool.{true, false};
+ghost use mathlib.Core.Bool.{true};
 ghost use mathlib.Core.Path.{_≡_};
 ghost use Prim.Native.Nat.{ℕ, _+_, _≤_};
-ghost use lib.ListN.{length, replicate};
+ghost use lib.Chars.{codes};
+ghost use lib.ListN.{length};
 ghost use Rattle.camellia.specs.Numbers.{halfAt};
 ghost use Rattle.camellia.specs.Keys.{keyL, joined as joinedOf, schedule};
 ghost use Rattle.camellia.specs.Cipher.{toState, toBytes, E, D};
 ghost use Rattle.camellia.specs.Laws.{takes as takesOf};
-ghost use Rattle.camellia_rounds.specs.Told.{stateOf, scheduleOf, enciphers, deciphers, loadAnswer};
+ghost use Rattle.camellia_rounds.specs.Told.{stateOf, scheduleOf, enciphersOf, deciphersOf};
 use crate::cipher::Camellia;
 use crate::expand::expand_18;
 use crate::expand::expand_24;
@@ -15,8 +16,14 @@ use crate::expand::joined;
 use crate::half::Half;
 use crate::rounds::Halves;
 use crate::schedule::Schedule;
+use engine::Engine;
 use refusal::Refusal;
 use std::marker::PhantomData;
+
+// Read through constants of the module: of an associated constant of a generic impl a proof knows no value.
+const CIPHER_NAME: [u8; 8] = *b"camellia";
+
+const LENGTHS: [usize; 3] = [16, 24, 32];
 
 // The eight bytes from a place on, the most significant first.
 fn half_at(bytes: &[u8], at: usize) -> u64
@@ -40,13 +47,6 @@ fn halves_at(bytes: &[u8], at: usize) -> u128
     ensures { λ r. ⌜ r ≡ joinedOf (halfAt (now (bytes .entry)) at) (halfAt (now (bytes .entry)) (at + 8)) ⌝ }
 {
     joined(half_at(bytes, at), half_at(bytes, at + 8))
-}
-
-// Whether a key of this length is taken.
-pub fn takes(len: usize) -> bool
-    ensures { λ r. ⌜ r ≡ takesOf len ⌝ }
-{
-    len == 16 || len == 24 || len == 32
 }
 
 fn schedule_of<H: Half>(key: &[u8]) -> Schedule
@@ -80,41 +80,52 @@ fn join<H: Half>(s: Halves<H>) -> [u8; 16]
     [a, b, c, d, e, f, g, h, i, j, k, m, n, o, p, q]
 }
 
-impl<H: Half> Camellia<H> {
-    // A new one holds sixteen zero bytes.
-    pub fn new() -> Self
-        ensures enciphers { λ r. ⌜ enciphers r ≡ E (replicate 16 0) ⌝ }
-        ensures deciphers { λ r. ⌜ deciphers r ≡ D (replicate 16 0) ⌝ }
-    {
+pub impl<H: Half> Engine for Camellia<H> as OnHalves {
+    const NAME: [u8; 8] = CIPHER_NAME;
+
+    const KEY_LENGTHS: [usize; 3] = LENGTHS;
+
+    ghost name = { codes "camellia" };
+
+    ghost takes = { takesOf };
+
+    ghost cipher = { E };
+
+    ghost inverse = { D };
+
+    ghost enciphers = { enciphersOf };
+
+    ghost deciphers = { deciphersOf };
+
+    fn cipher_name() -> [u8; 8] {
+        CIPHER_NAME
+    }
+
+    fn accepts(len: usize) -> bool {
+        len == LENGTHS[0] || len == LENGTHS[1] || len == LENGTHS[2]
+    }
+
+    fn new() -> Self {
         Camellia {
             schedule: schedule_of::<H>(&[0; 16]),
             path: PhantomData,
         }
     }
 
-    pub fn load(&mut self, key: &[u8]) -> Result<(), Refusal>
-        ensures answer { λ r. ⌜ r ≡ loadAnswer (takesOf (length (now (key .entry)))) ⌝ }
-        ensures refused { λ _. ⌜ (takesOf (length (now (key .entry))) ≡ false → now (self .exit) ≡ now (self .entry)) ⌝ }
-        ensures enciphers { λ _. ⌜ (takesOf (length (now (key .entry))) ≡ true → enciphers (now (self .exit)) ≡ E (now (key .entry))) ⌝ }
-        ensures deciphers { λ _. ⌜ (takesOf (length (now (key .entry))) ≡ true → deciphers (now (self .exit)) ≡ D (now (key .entry))) ⌝ }
-    {
-        if !takes(key.len()) {
+    fn load(&mut self, key: &[u8]) -> Result<(), Refusal> {
+        if !Self::accepts(key.len()) {
             return Err(Refusal::KeyLength);
         }
         self.schedule = schedule_of::<H>(key);
         Ok(())
     }
 
-    pub fn encipher(&self, block: &mut [u8; 16])
-        ensures { λ _. ⌜ now (block .exit) ≡ enciphers (now (self .entry)) (now (block .entry)) ⌝ }
-    {
+    fn encipher(&self, block: &mut [u8; 16]) {
         let halves: Halves<H> = split(block);
         *block = join(halves.encrypted(&self.schedule));
     }
 
-    pub fn decipher(&self, block: &mut [u8; 16])
-        ensures { λ _. ⌜ now (block .exit) ≡ deciphers (now (self .entry)) (now (block .entry)) ⌝ }
-    {
+    fn decipher(&self, block: &mut [u8; 16]) {
         let halves: Halves<H> = split(block);
         *block = join(halves.decrypted(&self.schedule));
     }

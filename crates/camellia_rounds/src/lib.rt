@@ -1,6 +1,6 @@
 // Camellia over any form of a 64-bit half: the tables of subkeys, the key schedule, the rounds and the cipher.
 pub mod cipher;
-mod engine;
+pub mod engine;
 mod expand;
 pub mod half;
 pub mod parts;

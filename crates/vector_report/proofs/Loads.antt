@@ -5,7 +5,7 @@ use native.Mathlib.Omega.{arith}
 use Prim.Native.Nat.{ℕ}
 use Rattle.std.specs.declared.result.Result.the-variants.{Ok, Err}
 use Rattle.refusal.specs.declared.Refusal.{Refusal}
-use Rattle.camellia_rounds.specs.Told.{loadAnswer}
+use Rattle.engine.specs.Kind.{loadAnswer}
 
 pub loads : (b : Bool) → Ok tt ≡ loadAnswer b → b ≡ true
 loads true e = refl

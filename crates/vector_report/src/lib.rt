@@ -3,3 +3,4 @@ mod judge;
 pub mod report;
 #[cfg(test)]
 mod tests;
+mod verdict;

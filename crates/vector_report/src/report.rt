@@ -3,25 +3,22 @@ ghost use mathlib.Core.List.{_++_};
 ghost use mathlib.Core.Path.{_≡_};
 ghost use Prim.Native.Nat.{ℕ};
 ghost use lib.ListN.{take};
-ghost use Rattle.std.specs.Orderings.{Decides};
 ghost use Rattle.std.specs.Of.String.{string-bytes};
 ghost use Rattle.std.specs.Vec.{made};
 ghost use Rattle.std.specs.declared.option.Option.the-variants.{Some};
-ghost use Rattle.vector_groups.specs.declared.group.Group.{Group};
-ghost use Rattle.vector_report.specs.Report.{Reports, Judges, word, judgedLine, malformedLine};
-use crate::judge::Agreement;
-use camellia_byte::ByteCamellia;
-use camellia_byte::half::OnBytes;
+ghost use Rattle.vector_report.specs.Report.{Reports, shown as shownAs, judgedLine, malformedLine};
+use crate::judge::judge;
+use crate::verdict::Agreement;
+use crate::verdict::Verdict;
 use std::alloc::AllocError;
 use std::alloc::Global;
 use std::fmt;
-use vector_groups::group::Group;
 use vector_groups::parse::parse;
 
 const LIMIT: usize = 65536;
 
 impl fmt::Display for Agreement as AgreementDisplay {
-    ghost shown = { λ a. Some (word a) };
+    ghost shown = { λ a. Some (shownAs a) };
 
     fn fmt<W: fmt::Write>(&self, f: &mut fmt::Formatter<W>) -> fmt::Result {
         match self {
@@ -31,41 +28,17 @@ impl fmt::Display for Agreement as AgreementDisplay {
     }
 }
 
-fn judged_line(heap: Global, number: u64, byte: Agreement) -> Result<String, AllocError>
-    ensures { λ r. ⌜ made r (λ s. string-bytes s ≡ judgedLine number byte) ⌝ }
+fn judged_line(heap: Global, number: u64, verdict: Verdict) -> Result<String, AllocError>
+    ensures { λ r. ⌜ made r (λ s. string-bytes s ≡ judgedLine number verdict) ⌝ }
 {
-    format!(heap, "group={number} byte={byte}\n")
+    let Verdict { byte, word } = verdict;
+    format!(heap, "group={number} byte={byte} word={word}\n")
 }
 
 fn malformed_line(heap: Global, number: u64) -> Result<String, AllocError>
     ensures { λ r. ⌜ made r (λ s. string-bytes s ≡ malformedLine number) ⌝ }
 {
     format!(heap, "group={number} malformed\n")
-}
-
-// Whether both blocks are equal.
-fn equal(a: &[u8; 16], b: &[u8; 16]) -> bool
-    ensures { λ r. ⌜ Decides r (now (a .entry) ≡ now (b .entry)) ⌝ }
-{
-    *a == *b
-}
-
-fn judge(group: &Group) -> Agreement
-    ensures { λ r. ⌜ Judges (now (group .entry)) r ⌝ }
-{
-    let mut engine = ByteCamellia::new();
-    let Ok(()) = engine.load(group.key.bytes()) else {
-        return Agreement::Differs;
-    };
-    let mut forth = group.plain;
-    engine.encipher(&mut forth);
-    let mut back = group.cipher;
-    engine.decipher(&mut back);
-    if equal(&forth, &group.cipher) && equal(&back, &group.plain) {
-        Agreement::Same
-    } else {
-        Agreement::Differs
-    }
 }
 
 fn append(out: &mut String, line: String) -> Result<(), AllocError>

@@ -1,0 +1,12 @@
+use borrow.Author.Needs.{needs}
+use mathlib.Core.Path.{sym, ap, _∙_}
+use Rattle.camellia.proofs.Parts.{FLINV-parts}
+use Rattle.camellia_rounds.specs.Parts.{whole}
+use Rattle.camellia_word.proofs.half.OnWords.fl_inverse.Needs as need
+
+pub returns : need.returns
+returns c =
+    let x = c .args .self in
+    let k = c .args .key in
+    ap whole (c .fl-inverse-left .ensures)
+    ∙ sym (FLINV-parts (x .left) (x .right) (k .left) (k .right) (search needs) (search needs) (search needs))
