@@ -26,23 +26,23 @@ group=$key$'\n'$plain$'\n'$cipher$'\n'
 
 # lines FIRST LAST: the lines of groups that agree
 lines() {
-    for n in $(seq "$1" "$2"); do echo "group=$n byte=same word=same"; done
+    for n in $(seq "$1" "$2"); do echo "group=$n byte=same word=same long=same"; done
 }
 
 # malformed NAME TEXT: the text is no group, neither first nor after one
 malformed() {
     expect "$1" "group=1 malformed" < <(printf '%s' "$2")
-    expect "$1, after a group" "group=1 byte=same word=same
+    expect "$1, after a group" "group=1 byte=same word=same long=same
 group=2 malformed" < <(printf '%s' "$group$2")
 }
 
 expect "450 groups of OpenSSL agree" "$(lines 1 450)" <tests/data/openssl_groups.txt
 expect "empty input writes nothing" "" </dev/null
-expect "a wrong cipher byte differs" "group=1 byte=differs word=differs" < <(printf '%s' "${group/43$'\n'/42$'\n'}")
-expect "a wrong plain byte differs" "group=1 byte=differs word=differs" < <(printf '%s' "${group/plain=01/plain=02}")
-expect "a wrong key byte differs" "group=1 byte=differs word=differs" < <(printf '%s' "${group/key=01/key=02}")
-expect "a group that differs does not end the run" "group=1 byte=differs word=differs
-group=2 byte=same word=same" < <(printf '%s' "${group/key=01/key=02}$group")
+expect "a wrong cipher byte differs" "group=1 byte=differs word=differs long=differs" < <(printf '%s' "${group/43$'\n'/42$'\n'}")
+expect "a wrong plain byte differs" "group=1 byte=differs word=differs long=differs" < <(printf '%s' "${group/plain=01/plain=02}")
+expect "a wrong key byte differs" "group=1 byte=differs word=differs long=differs" < <(printf '%s' "${group/key=01/key=02}")
+expect "a group that differs does not end the run" "group=1 byte=differs word=differs long=differs
+group=2 byte=same word=same long=same" < <(printf '%s' "${group/key=01/key=02}$group")
 
 for bytes in 0 1 15 17 20 23 25 31 33 64; do
     digits=$(printf '%0*d' $((2 * bytes)) 0)

@@ -3,7 +3,7 @@ use Prim.Native.Nat.{ℕ}
 use Rattle.refusal.specs.declared.Layer.{Layer}
 use Rattle.refusal.specs.declared.Layer.the-variants.{Card, Store, Cipher}
 use Rattle.refusal.specs.declared.Refusal.{Refusal}
-use Rattle.refusal.specs.declared.Refusal.the-variants.{KeyLength}
+use Rattle.refusal.specs.declared.Refusal.the-variants.{PairLength, KeyLength}
 
 pub record Code : Type 0 where
   pub number : ℕ
@@ -11,6 +11,7 @@ pub record Code : Type 0 where
   pub frame : ℕ
 
 abbrev pub code : Refusal → Code
+code PairLength = record { number = 2; layer = Card; frame = 0 }
 code KeyLength = record { number = 2; layer = Cipher; frame = 0 }
 
 abbrev pub layerNumber : Layer → ℕ

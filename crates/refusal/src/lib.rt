@@ -12,6 +12,8 @@ pub enum Layer {
 
 #[derive(Clone, Copy, PartialEq, Eq, Debug)]
 pub enum Refusal {
+    // a pair of keys has not 32, 48 or 64 bytes
+    PairLength,
     // the engine takes no key of this length
     KeyLength,
 }
@@ -33,7 +35,7 @@ impl Refusal {
         ensures { λ r. ⌜ r ≡ code self .number ⌝ }
     {
         match self {
-            Refusal::KeyLength => 2,
+            Refusal::PairLength | Refusal::KeyLength => 2,
         }
     }
 
@@ -41,6 +43,7 @@ impl Refusal {
         ensures { λ r. ⌜ r ≡ code self .layer ⌝ }
     {
         match self {
+            Refusal::PairLength => Layer::Card,
             Refusal::KeyLength => Layer::Cipher,
         }
     }
@@ -49,7 +52,7 @@ impl Refusal {
         ensures { λ r. ⌜ r ≡ code self .frame ⌝ }
     {
         match self {
-            Refusal::KeyLength => 0,
+            Refusal::PairLength | Refusal::KeyLength => 0,
         }
     }
 }

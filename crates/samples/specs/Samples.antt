@@ -2,11 +2,14 @@
 use Prim.Native.Nat.{ℕ, _%_, _^_}
 use mathlib.Core.List.{List, [], _∷_, _++_}
 use mathlib.Core.Path.{_≡_}
-use lib.ListN.{length}
+use lib.ListN.{length, replicate}
+use Rattle.std.specs.Iters.{counting}
 use Rattle.camellia.specs.Sbox.{s1, s2, s3, s4}
 use Rattle.camellia.specs.Functions.{P, F, FL, FLINV}
 use Rattle.camellia.specs.Keys.{keyR}
 use Rattle.camellia.specs.Cipher.{E, D}
+use Rattle.sealing.specs.Pair.{dataKey, tweakKey, checkValue}
+use Rattle.sealing.specs.Xts.{unit, doubled}
 
 -- 01 23 45 67 89 ab cd ef fe dc ba 98 76 54 32 10: the block, and the front of each key, of RFC 3713's examples
 abbrev pub rfcBlock : List ℕ
@@ -48,8 +51,24 @@ pub record Examples : Type 0 where
       E (rfcBlock ++ (rfcMiddle ++ rfcEnd)) rfcBlock
       ≡ 0x9a ∷ 0xcc ∷ 0x23 ∷ 0x7d ∷ 0xff ∷ 0x16 ∷ 0xd7 ∷ 0x6c ∷ 0x20 ∷ 0xef ∷ 0x7c ∷ 0x91 ∷ 0x9e ∷ 0x3a ∷ 0x75 ∷ 0x09 ∷ []
 
+-- the tweak of XTS
+pub record Tweaks : Type 0 where
+  pub carried : doubled (replicate 15 0 ++ (0x80 ∷ [])) ≡ 0x87 ∷ replicate 15 0
+  pub unit256 : unit 256 ≡ 0 ∷ 1 ∷ replicate 14 0
+
+-- the check value of the pair of bytes 0, 1, 2 ..
+abbrev pub checkOf : ℕ → List ℕ
+checkOf n = let keys = counting 0 n in checkValue (E (dataKey keys)) (E (tweakKey keys))
+
+pub record CheckValues : Type 0 where
+  pub bytes32 : checkOf 32 ≡ 0x20 ∷ 0x3b ∷ 0x53 ∷ 0x59 ∷ []
+  pub bytes48 : checkOf 48 ≡ 0x2c ∷ 0xd9 ∷ 0xb5 ∷ 0x3c ∷ []
+  pub bytes64 : checkOf 64 ≡ 0x01 ∷ 0x45 ∷ 0xc8 ∷ 0x76 ∷ []
+
 pub record Samples : Type 0 where
   pub substitutions : Substitutions
   pub halves : Halves
   pub complemented : Complemented
   pub examples : Examples
+  pub tweaks : Tweaks
+  pub checkValues : CheckValues

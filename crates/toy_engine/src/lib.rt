@@ -9,10 +9,12 @@ use refusal::Refusal;
 pub struct Identity;
 
 const CIPHER_NAME: [u8; 8] = *b"identity";
+
 const LENGTHS: [usize; 3] = [16, 24, 16];
 
 pub impl Engine for Identity as HandsBack {
     const NAME: [u8; 8] = CIPHER_NAME;
+
     const KEY_LENGTHS: [usize; 3] = LENGTHS;
 
     ghost name = { codes "identity" };

@@ -28,6 +28,7 @@ Judges takes cipher inverse g Differs = Agrees takes cipher inverse g → ⊥
 pub record Judged (g : Group) (v : Verdict) : Type 0 where
   pub byte : Judges takes E D g (v .byte)
   pub word : Judges takes E D g (v .word)
+  pub long : Judges takes E D g (v .long)
 
 abbrev pub shown : Agreement → List ℕ
 shown Same = codes "same"
@@ -35,7 +36,8 @@ shown Differs = codes "differs"
 
 abbrev pub judgedLine : ℕ → Verdict → List ℕ
 judgedLine n v =
-    codes "group=" ++ (decimal n ++ (codes " byte=" ++ (shown (v .byte) ++ (codes " word=" ++ (shown (v .word) ++ (10 ∷ []))))))
+    codes "group=" ++ (decimal n ++ (codes " byte=" ++ (shown (v .byte) ++ (codes " word=" ++ (shown (v .word)
+    ++ (codes " long=" ++ (shown (v .long) ++ (10 ∷ []))))))))
 
 abbrev pub malformedLine : ℕ → List ℕ
 malformedLine n = codes "group=" ++ (decimal n ++ (codes " malformed" ++ (10 ∷ [])))

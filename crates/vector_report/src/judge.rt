@@ -7,6 +7,8 @@ use crate::verdict::Agreement;
 use crate::verdict::Verdict;
 use camellia_byte::ByteCamellia;
 use camellia_byte::half::OnBytes;
+use camellia_long::cipher::LongCamellia;
+use camellia_long::engine::OnTables;
 use camellia_rounds::engine::OnHalves;
 use camellia_word::WordCamellia;
 use camellia_word::half::OnWords;
@@ -38,11 +40,12 @@ fn agreement<E: Engine + Drop>(group: &Group) -> Agreement
     }
 }
 
-pub fn judge(group: &Group) -> Verdict
+pub(crate) fn judge(group: &Group) -> Verdict
     ensures { λ r. ⌜ Judged (now (group .entry)) r ⌝ }
 {
     Verdict {
         byte: agreement::<ByteCamellia>(group),
         word: agreement::<WordCamellia>(group),
+        long: agreement::<LongCamellia>(group),
     }
 }

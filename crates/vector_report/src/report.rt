@@ -31,8 +31,8 @@ impl fmt::Display for Agreement as AgreementDisplay {
 fn judged_line(heap: Global, number: u64, verdict: Verdict) -> Result<String, AllocError>
     ensures { λ r. ⌜ made r (λ s. string-bytes s ≡ judgedLine number verdict) ⌝ }
 {
-    let Verdict { byte, word } = verdict;
-    format!(heap, "group={number} byte={byte} word={word}\n")
+    let Verdict { byte, word, long } = verdict;
+    format!(heap, "group={number} byte={byte} word={word} long={long}\n")
 }
 
 fn malformed_line(heap: Global, number: u64) -> Result<String, AllocError>

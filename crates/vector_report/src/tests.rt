@@ -16,7 +16,7 @@ const CASES: [(&str, &[u8], &str); 5] = [
     (
         "RFC 3713's examples agree",
         SAME,
-        "group=1 byte=same word=same\ngroup=2 byte=same word=same\ngroup=3 byte=same word=same\n",
+        "group=1 byte=same word=same long=same\ngroup=2 byte=same word=same long=same\ngroup=3 byte=same word=same long=same\n",
     ),
     ("an empty text has no line", b"", ""),
     (
@@ -27,7 +27,7 @@ const CASES: [(&str, &[u8], &str); 5] = [
         key=0123456789abcdeffedcba9876543210\n\
         plain=0123456789abcdeffedcba9876543210\n\
         cipher=67673138549669730857065648eabe43\n",
-        "group=1 byte=differs word=differs\ngroup=2 byte=same word=same\n",
+        "group=1 byte=differs word=differs long=differs\ngroup=2 byte=same word=same long=same\n",
     ),
     (
         "a malformed group ends the run",

@@ -9,4 +9,5 @@ pub enum Agreement {
 pub struct Verdict {
     pub byte: Agreement,
     pub word: Agreement,
+    pub long: Agreement,
 }

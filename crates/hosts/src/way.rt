@@ -1,0 +1,6 @@
+// Which way a frame goes.
+#[derive(Clone, Copy)]
+pub enum Way {
+    Seal,
+    Open,
+}

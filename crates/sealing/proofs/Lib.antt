@@ -1,0 +1,3 @@
+mod Frames
+mod Sixteen
+mod Undo

@@ -1,0 +1,3 @@
+pub mod Xts
+pub mod Pair
+pub mod Laws
