@@ -1,7 +1,7 @@
 -- Blocks of sixteen bytes and their two halves.
 use Prim.Native.Nat.{ℕ, zero, suc, _+_, _-_, _*_, _/_, _%_, _^_, _<_}
-use mathlib.Core.Path.{_≡_, refl, sym, ap₂, _∙_}
-use mathlib.Core.List.{List, [], _∷_, _++_, map}
+use mathlib.Core.Path.{_≡_, refl, sym, ap, ap₂, _∙_}
+use mathlib.Core.List.{List, [], _∷_, _++_, map, reverse}
 use native.Mathlib.Omega.{arith}
 use lib.ListN.{length, getD}
 use Rattle.std.proofs.shelf.Equals.{text-from-reads}
@@ -65,3 +65,22 @@ pub toBytes-block : (s : State) → Block (toBytes s)
 unfolding toBytes
 toBytes-block s =
     record { sixteen = refl; bytes = bytes8-bytes (s .left) (bytes8 (s .right)) (bytes8-bytes (s .right) [] (λ i. omega arith)) }
+
+-- eight bytes, the least significant first
+abbrev pub le8 : ℕ → List ℕ
+le8 x =
+    (x % 256) ∷ (x / 2 ^ 8 % 256) ∷ (x / 2 ^ 16 % 256) ∷ (x / 2 ^ 24 % 256)
+    ∷ (x / 2 ^ 32 % 256) ∷ (x / 2 ^ 40 % 256) ∷ (x / 2 ^ 48 % 256) ∷ (x / 2 ^ 56 % 256) ∷ []
+
+le8-join : (a b c d e f g h : ℕ) → a < 256 → b < 256 → c < 256 → d < 256 → e < 256 → f < 256 → g < 256 → h < 256
+    → le8 (join8 a b c d e f g h) ≡ h ∷ g ∷ f ∷ e ∷ d ∷ c ∷ b ∷ a ∷ []
+le8-join a b c d e f g h ha hb hc hd he hf hg hh =
+    ap reverse (bytes8-join a b c d e f g h ha hb hc hd he hf hg hh)
+
+-- the bytes of a number whose bytes changed places
+pub bytes-swapped : (x : ℕ)
+    → le8 (join8 (x % 256) (x / 2 ^ 8 % 256) (x / 2 ^ 16 % 256) (x / 2 ^ 24 % 256) (x / 2 ^ 32 % 256) (x / 2 ^ 40 % 256) (x / 2 ^ 48 % 256) (x / 2 ^ 56 % 256))
+    ≡ bytes8 x
+bytes-swapped x =
+    le8-join (x % 256) (x / 2 ^ 8 % 256) (x / 2 ^ 16 % 256) (x / 2 ^ 24 % 256) (x / 2 ^ 32 % 256) (x / 2 ^ 40 % 256) (x / 2 ^ 48 % 256) (x / 2 ^ 56 % 256)
+    (omega arith) (omega arith) (omega arith) (omega arith) (omega arith) (omega arith) (omega arith) (omega arith)

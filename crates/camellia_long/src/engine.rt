@@ -13,6 +13,7 @@ use crate::keys::keys_of;
 use crate::keys::takes;
 use crate::one::decrypt_one;
 use crate::one::encrypt_one;
+use crate::zero::zero_keys;
 use engine::Engine;
 use refusal::Refusal;
 
@@ -44,9 +45,7 @@ pub impl Engine for LongCamellia as OnTables {
     }
 
     fn new() -> Self {
-        LongCamellia {
-            keys: keys_of(&[0; 16]),
-        }
+        LongCamellia { keys: zero_keys() }
     }
 
     fn load(&mut self, key: &[u8]) -> Result<(), Refusal> {

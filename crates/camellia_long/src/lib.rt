@@ -6,3 +6,4 @@ pub mod engine;
 mod keys;
 mod one;
 mod rounds;
+mod zero;

@@ -9,10 +9,13 @@ ghost use Rattle.camellia.specs.Keys.{keyL, joined as joinedOf, schedule};
 ghost use Rattle.camellia.specs.Cipher.{toState, toBytes, E, D};
 ghost use Rattle.camellia.specs.Laws.{takes as takesOf};
 ghost use Rattle.camellia_rounds.specs.Told.{stateOf, scheduleOf, enciphersOf, deciphersOf};
+use crate::bytes::block;
+use crate::bytes::half_at;
+use crate::bytes::halves_at;
+use crate::bytes::joined;
 use crate::cipher::Camellia;
 use crate::expand::expand_18;
 use crate::expand::expand_24;
-use crate::expand::joined;
 use crate::half::Half;
 use crate::rounds::Halves;
 use crate::schedule::Schedule;
@@ -24,30 +27,6 @@ use std::marker::PhantomData;
 const CIPHER_NAME: [u8; 8] = *b"camellia";
 
 const LENGTHS: [usize; 3] = [16, 24, 32];
-
-// The eight bytes from a place on, the most significant first.
-fn half_at(bytes: &[u8], at: usize) -> u64
-    requires { ⌜ at + 8 ≤ length (now bytes) ⌝ }
-    ensures { λ r. ⌜ r ≡ halfAt (now (bytes .entry)) at ⌝ }
-{
-    u64::from_be_bytes([
-        bytes[at],
-        bytes[at + 1],
-        bytes[at + 2],
-        bytes[at + 3],
-        bytes[at + 4],
-        bytes[at + 5],
-        bytes[at + 6],
-        bytes[at + 7],
-    ])
-}
-
-fn halves_at(bytes: &[u8], at: usize) -> u128
-    requires { ⌜ at + 16 ≤ length (now bytes) ⌝ }
-    ensures { λ r. ⌜ r ≡ joinedOf (halfAt (now (bytes .entry)) at) (halfAt (now (bytes .entry)) (at + 8)) ⌝ }
-{
-    joined(half_at(bytes, at), half_at(bytes, at + 8))
-}
 
 fn schedule_of<H: Half>(key: &[u8]) -> Schedule
     requires { ⌜ takesOf (length (now key)) ≡ true ⌝ }
@@ -75,9 +54,7 @@ fn split<H: Half>(block: &[u8; 16]) -> Halves<H>
 fn join<H: Half>(s: Halves<H>) -> [u8; 16]
     ensures { λ r. ⌜ r ≡ toBytes (stateOf value s) ⌝ }
 {
-    let [a, b, c, d, e, f, g, h] = s.left.number().to_be_bytes();
-    let [i, j, k, m, n, o, p, q] = s.right.number().to_be_bytes();
-    [a, b, c, d, e, f, g, h, i, j, k, m, n, o, p, q]
+    block(s.left.number(), s.right.number())
 }
 
 pub impl<H: Half> Engine for Camellia<H> as OnHalves {

@@ -2,18 +2,21 @@
 ghost use mathlib.Core.Path.{_≡_};
 ghost use Prim.Native.Nat.{ℕ, _+_, _≤_};
 ghost use lib.ListN.{length};
-ghost use Rattle.camellia.specs.Keys.{leftHalf, rightHalf, joined as joinedOf, mixed as mixedOf, material as materialOf, from, subkey as subkeyOf, layerOf, scheduled};
+ghost use Rattle.camellia.specs.Keys.{mixed as mixedOf, material as materialOf, layerOf, scheduled};
 ghost use Rattle.camellia.specs.Keys.{whitening18, layers18, whitening24, layers24};
 ghost use Rattle.camellia_rounds.specs.Told.{scheduleOf};
+use crate::bytes::joined;
+use crate::bytes::left;
+use crate::bytes::right;
 use crate::half::Half;
 use crate::rounds::Halves;
 use crate::schedule::Schedule;
+use crate::subkey::subkey;
 use crate::tables;
 use camellia::plan::Layer;
 use camellia::plan::LayerClone;
 use camellia::plan::Material;
 use camellia::plan::Slot;
-use camellia::plan::Source;
 use camellia::plan::Whitening;
 
 const SIGMA_1: u64 = 0xA09E667F3BCC908B;
@@ -27,24 +30,6 @@ const SIGMA_4: u64 = 0x54FF53A5F1D36F1C;
 const SIGMA_5: u64 = 0x10E527FADE682D1D;
 
 const SIGMA_6: u64 = 0xB05688C2B3E6C1FD;
-
-fn left(x: u128) -> u64
-    ensures { λ r. ⌜ r ≡ leftHalf x ⌝ }
-{
-    (x >> 64) as u64
-}
-
-fn right(x: u128) -> u64
-    ensures { λ r. ⌜ r ≡ rightHalf x ⌝ }
-{
-    (x & 0xffff_ffff_ffff_ffff) as u64
-}
-
-pub(crate) fn joined(left: u64, right: u64) -> u128
-    ensures { λ r. ⌜ r ≡ joinedOf left right ⌝ }
-{
-    (left as u128) << 64 | right as u128
-}
 
 // Two rounds under two constants.
 fn mixed<H: Half>(first: u64, second: u64, x: u128) -> u128
@@ -65,26 +50,6 @@ fn material<H: Half>(kl: u128, kr: u128) -> Material
     let ka = mixed::<H>(SIGMA_3, SIGMA_4, t ^ kl);
     let kb = mixed::<H>(SIGMA_5, SIGMA_6, ka ^ kr);
     Material { kl, kr, ka, kb }
-}
-
-fn source(m: &Material, source: Source) -> u128
-    ensures { λ r. ⌜ r ≡ from (now (m .entry)) source ⌝ }
-{
-    match source {
-        Source::KL => m.kl,
-        Source::KR => m.kr,
-        Source::KA => m.ka,
-        Source::KB => m.kb,
-    }
-}
-
-fn subkey(m: &Material, slot: Slot) -> u64
-    ensures { λ r. ⌜ r ≡ subkeyOf (now (m .entry)) slot ⌝ }
-{
-    match slot {
-        Slot::Left(s, turn) => left(source(m, s).rotate_left(turn)),
-        Slot::Right(s, turn) => right(source(m, s).rotate_left(turn)),
-    }
 }
 
 fn layer(m: &Material, slots: Layer<Slot>) -> Layer<u64>

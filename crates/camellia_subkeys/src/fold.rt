@@ -1,5 +1,5 @@
-// The fold of the whitening keys. An offset on one half moves through the layers: a round that reads it takes it in its
-// key, and FL turns it into another offset. So kw2 goes down to kw3 and kw4 up to kw1, and a block has two additions less.
+// The fold of two whitening keys. An offset on one half moves through the layers: a round that reads that half takes it in
+// its key, and FL turns it into another offset. So kw2 goes down into kw3 and kw4 up into kw1, and a block takes only these.
 ghost use mathlib.Core.Path.{_≡_};
 ghost use Prim.Native.Nat.{ℕ};
 ghost use Rattle.camellia_fold.specs.Fold.{throughFlInverse};

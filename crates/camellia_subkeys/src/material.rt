@@ -1,9 +1,12 @@
 // K_A and K_B from K_L and K_R.
 ghost use mathlib.Core.Path.{_≡_};
 ghost use Prim.Native.Nat.{ℕ};
-ghost use Rattle.camellia.specs.Keys.{leftHalf, rightHalf, joined as joinedOf, mixed as mixedOf, material as materialOf};
+ghost use Rattle.camellia.specs.Keys.{mixed as mixedOf, material as materialOf};
 ghost use Rattle.camellia_subkeys.specs.Slots.{withoutKb};
 use camellia::plan::Material;
+use camellia_rounds::bytes::joined;
+use camellia_rounds::bytes::left;
+use camellia_rounds::bytes::right;
 use camellia_tables::half::f;
 
 const SIGMA_1: u64 = 0xA09E667F3BCC908B;
@@ -17,24 +20,6 @@ const SIGMA_4: u64 = 0x54FF53A5F1D36F1C;
 const SIGMA_5: u64 = 0x10E527FADE682D1D;
 
 const SIGMA_6: u64 = 0xB05688C2B3E6C1FD;
-
-pub(crate) fn left(x: u128) -> u64
-    ensures { λ r. ⌜ r ≡ leftHalf x ⌝ }
-{
-    (x >> 64) as u64
-}
-
-pub(crate) fn right(x: u128) -> u64
-    ensures { λ r. ⌜ r ≡ rightHalf x ⌝ }
-{
-    (x & 0xffff_ffff_ffff_ffff) as u64
-}
-
-pub fn joined(left: u64, right: u64) -> u128
-    ensures { λ r. ⌜ r ≡ joinedOf left right ⌝ }
-{
-    (left as u128) << 64 | right as u128
-}
 
 // Two rounds under two constants.
 fn mixed(first: u64, second: u64, x: u128) -> u128

@@ -2,35 +2,11 @@
 ghost use mathlib.Core.Path.{_≡_};
 ghost use Prim.Native.Nat.{ℕ, _+_, _<_, _≤_};
 ghost use lib.ListN.{length};
-ghost use Rattle.camellia.specs.Keys.{from, subkey as subkeyOf};
 ghost use Rattle.camellia_subkeys.specs.Slots.{slotsOf, keyAt, pairAt, sixAt, whiteningAt};
-use crate::material::left;
-use crate::material::right;
 use crate::slots::slots;
 use camellia::plan::Material;
-use camellia::plan::Slot;
-use camellia::plan::Source;
 use camellia::plan::Whitening;
-
-fn source(m: &Material, source: Source) -> u128
-    ensures { λ r. ⌜ r ≡ from (now (m .entry)) source ⌝ }
-{
-    match source {
-        Source::KL => m.kl,
-        Source::KR => m.kr,
-        Source::KA => m.ka,
-        Source::KB => m.kb,
-    }
-}
-
-fn subkey(m: &Material, slot: Slot) -> u64
-    ensures { λ r. ⌜ r ≡ subkeyOf (now (m .entry)) slot ⌝ }
-{
-    match slot {
-        Slot::Left(s, turn) => left(source(m, s).rotate_left(turn)),
-        Slot::Right(s, turn) => right(source(m, s).rotate_left(turn)),
-    }
-}
+use camellia_rounds::subkey::subkey;
 
 // The only reader of the tables: at a constant place the compiler computes the slot away.
 fn key_at<const R: usize>(m: &Material, i: usize) -> u64

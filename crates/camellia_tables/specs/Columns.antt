@@ -6,7 +6,7 @@ use Rattle.std.specs.Iters.{counting}
 use Rattle.camellia.specs.Numbers.{rotl, rotr}
 
 -- SBOX1 once more, as a list that computes where a contract cites it
-abbrev pub box1 : List ℕ
+abbrev box1 : List ℕ
 box1 =
     112 ∷ 130 ∷ 44 ∷ 236 ∷ 179 ∷ 39 ∷ 192 ∷ 229 ∷ 228 ∷ 133 ∷ 87 ∷ 53 ∷ 234 ∷ 12 ∷ 174 ∷ 65 ∷
     35 ∷ 239 ∷ 107 ∷ 147 ∷ 69 ∷ 25 ∷ 165 ∷ 33 ∷ 237 ∷ 14 ∷ 79 ∷ 78 ∷ 29 ∷ 101 ∷ 146 ∷ 189 ∷
@@ -25,10 +25,10 @@ box1 =
     114 ∷ 7 ∷ 185 ∷ 85 ∷ 248 ∷ 238 ∷ 172 ∷ 10 ∷ 54 ∷ 73 ∷ 42 ∷ 104 ∷ 60 ∷ 56 ∷ 241 ∷ 164 ∷
     64 ∷ 40 ∷ 211 ∷ 123 ∷ 187 ∷ 201 ∷ 67 ∷ 193 ∷ 21 ∷ 227 ∷ 173 ∷ 244 ∷ 119 ∷ 199 ∷ 128 ∷ 158 ∷ []
 
+-- s1 to s4 by that list
 abbrev t1 : ℕ → ℕ
 t1 y = getD box1 y 0
 
--- the substitutions of the bytes of a half: s1, s2, s3, s4, s2, s3, s4, s1
 abbrev t2 : ℕ → ℕ
 t2 y = rotl 8 1 (t1 y)
 
@@ -38,10 +38,11 @@ t3 y = rotr 8 1 (t1 y)
 abbrev t4 : ℕ → ℕ
 t4 y = t1 (rotl 8 1 y)
 
+-- the substitutions of the eight bytes of a half
 abbrev boxes : List (ℕ → ℕ)
 boxes = t1 ∷ t2 ∷ t3 ∷ t4 ∷ t2 ∷ t3 ∷ t4 ∷ t1 ∷ []
 
--- the columns of P, a byte for each row
+-- the columns of P: a byte for each row, 1 where the row has the column
 abbrev columns : List ℕ
 columns =
     0x0101010001000001 ∷ 0x0001010101010000 ∷ 0x0100010100010100 ∷ 0x0101000100000101

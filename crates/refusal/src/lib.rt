@@ -16,6 +16,14 @@ pub enum Refusal {
     PairLength,
     // the engine takes no key of this length
     KeyLength,
+    // a buffer given to a store for this frame has not 128 bytes
+    BufferLength(u64),
+    // the store has no such frame
+    FrameNumber(u64),
+    // the frame is worn
+    WornFrame(u64),
+    // twenty other frames are marked as worn
+    TooManyWorn(u64),
 }
 
 impl Layer {
@@ -36,6 +44,10 @@ impl Refusal {
     {
         match self {
             Refusal::PairLength | Refusal::KeyLength => 2,
+            Refusal::BufferLength(_) => 3,
+            Refusal::FrameNumber(_) => 4,
+            Refusal::WornFrame(_) => 5,
+            Refusal::TooManyWorn(_) => 9,
         }
     }
 
@@ -45,6 +57,10 @@ impl Refusal {
         match self {
             Refusal::PairLength => Layer::Card,
             Refusal::KeyLength => Layer::Cipher,
+            Refusal::BufferLength(_)
+            | Refusal::FrameNumber(_)
+            | Refusal::WornFrame(_)
+            | Refusal::TooManyWorn(_) => Layer::Store,
         }
     }
 
@@ -53,6 +69,10 @@ impl Refusal {
     {
         match self {
             Refusal::PairLength | Refusal::KeyLength => 0,
+            Refusal::BufferLength(n)
+            | Refusal::FrameNumber(n)
+            | Refusal::WornFrame(n)
+            | Refusal::TooManyWorn(n) => n,
         }
     }
 }

@@ -1,13 +1,13 @@
 -- Sixteen bytes and the number that they are.
 use Prim.Native.Nat.{ℕ, zero, suc, _+_, _*_, _/_, _%_, _^_, _<_}
 use mathlib.Core.List.{List, [], _∷_, _++_, map}
-use mathlib.Core.Path.{_≡_, refl, sym, ap, _∙_}
+use mathlib.Core.Path.{_≡_, refl, sym, ap, ap₂, _∙_}
 use native.Mathlib.Omega.{arith}
-use lib.Bits.{bitXor, xor-lt, xor-assoc, xor-self, xor-zero-r}
+use lib.Bits.{bitXor, xor-block, xor-lt, xor-assoc, xor-self, xor-zero-r}
 use lib.ListN.{length, getD}
 use Rattle.std.proofs.shelf.Equals.{text-from-reads}
 use Rattle.engine.specs.Block.{Bytes, Block}
-use Rattle.sealing.specs.Xts.{bytes16, number16, added, doubled}
+use Rattle.sealing.specs.Xts.{bytes16, number8, number16, added, doubled}
 
 pub number-bytes : (x : ℕ) → x < 2 ^ 128 → number16 (bytes16 x) ≡ x
 unfolding number16 bytes16
@@ -32,12 +32,6 @@ bytes-block x = record {
       ∷ (x / 2 ^ 64) ∷ (x / 2 ^ 72) ∷ (x / 2 ^ 80) ∷ (x / 2 ^ 88) ∷ (x / 2 ^ 96) ∷ (x / 2 ^ 104) ∷ (x / 2 ^ 112) ∷ (x / 2 ^ 120) ∷ []);
 }
 
--- eight bytes, the least significant first
-sum8 : List ℕ → ℕ → ℕ
-sum8 b i =
-    getD b i 0 + getD b (i + 1) 0 * 2 ^ 8 + getD b (i + 2) 0 * 2 ^ 16 + getD b (i + 3) 0 * 2 ^ 24
-    + getD b (i + 4) 0 * 2 ^ 32 + getD b (i + 5) 0 * 2 ^ 40 + getD b (i + 6) 0 * 2 ^ 48 + getD b (i + 7) 0 * 2 ^ 56
-
 record Digits (v : ℕ) (b : List ℕ) (i : ℕ) : Type 0 where
   d0 : v % 256 ≡ getD b i 0
   d1 : v / 2 ^ 8 % 256 ≡ getD b (i + 1) 0
@@ -49,8 +43,7 @@ record Digits (v : ℕ) (b : List ℕ) (i : ℕ) : Type 0 where
   d7 : v / 2 ^ 56 % 256 ≡ getD b (i + 7) 0
   small : v < 2 ^ 64
 
-digits8 : (b : List ℕ) (i : ℕ) → Bytes b → Digits (sum8 b i) b i
-unfolding sum8
+digits8 : (b : List ℕ) (i : ℕ) → Bytes b → Digits (number8 b i) b i
 digits8 b i h =
     let h0 = h i in
     let h1 = h (i + 1) in
@@ -72,9 +65,9 @@ digits8 b i h =
       small = omega arith;
     }
 
-number-halves : (b : List ℕ) → number16 b ≡ sum8 b 0 + sum8 b 8 * 2 ^ 64
-unfolding number16 sum8
-number-halves b = omega arith
+number-halves : (b : List ℕ) → number16 b ≡ number8 b 0 + number8 b 8 * 2 ^ 64
+unfolding number16
+number-halves b = refl
 
 -- the bytes of a sum of a low and a high half
 record Low (lo hi : ℕ) : Type 0 where
@@ -124,8 +117,8 @@ pub bytes-number : (b : List ℕ) → Block b → bytes16 (number16 b) ≡ b
 unfolding bytes16
 bytes-number b p =
     let y : ℕ = number16 b in
-    let lo : ℕ = sum8 b 0 in
-    let hi : ℕ = sum8 b 8 in
+    let lo : ℕ = number8 b 0 in
+    let hi : ℕ = number8 b 8 in
     let e : y ≡ lo + hi * 2 ^ 64 = number-halves b in
     let l = digits8 b 0 (p .bytes) in
     let u = digits8 b 8 (p .bytes) in
@@ -148,3 +141,15 @@ added-twice b t p h =
     ap (λ v. bytes16 (bitXor v y)) so
     ∙ ap bytes16 (xor-assoc x y y ∙ ap (λ v. bitXor x v) (xor-self y) ∙ xor-zero-r x)
     ∙ bytes-number b p
+
+-- by halves
+pub added-halves : (b t : List ℕ) → Bytes b → Bytes t
+    → bytes16 (bitXor (number8 b 0) (number8 t 0) + bitXor (number8 b 8) (number8 t 8) * 2 ^ 64) ≡ added b t
+unfolding number16
+added-halves b t h k =
+    let l : ℕ = bitXor (number8 b 0) (number8 t 0) in
+    let u : ℕ = bitXor (number8 b 8) (number8 t 8) in
+    let turn : (x y : ℕ) → x + y * 2 ^ 64 ≡ y * 2 ^ 64 + x = λ x y. omega arith in
+    ap bytes16 (turn l u
+    ∙ sym (xor-block 64 (number8 b 8) (number8 t 8) (number8 b 0) (number8 t 0) (digits8 b 0 h .small) (digits8 t 0 k .small))
+    ∙ sym (ap₂ bitXor (turn (number8 b 0) (number8 b 8)) (turn (number8 t 0) (number8 t 8))))

@@ -6,7 +6,7 @@ use lib.Bits.{bitXor}
 use lib.Dec.{ltb}
 use lib.ListN.{take, drop, getD}
 
--- a number as sixteen bytes, the least significant first, and back
+-- a number as sixteen bytes, the least significant first, and back, from the eight bytes at a place
 unfoldable pub bytes16 : ℕ → List ℕ
 bytes16 x =
     (x % 256) ∷ (x / 2 ^ 8 % 256) ∷ (x / 2 ^ 16 % 256) ∷ (x / 2 ^ 24 % 256)
@@ -14,12 +14,13 @@ bytes16 x =
     ∷ (x / 2 ^ 64 % 256) ∷ (x / 2 ^ 72 % 256) ∷ (x / 2 ^ 80 % 256) ∷ (x / 2 ^ 88 % 256)
     ∷ (x / 2 ^ 96 % 256) ∷ (x / 2 ^ 104 % 256) ∷ (x / 2 ^ 112 % 256) ∷ (x / 2 ^ 120 % 256) ∷ []
 
+abbrev pub number8 : List ℕ → ℕ → ℕ
+number8 b i =
+    getD b i 0 + getD b (i + 1) 0 * 2 ^ 8 + getD b (i + 2) 0 * 2 ^ 16 + getD b (i + 3) 0 * 2 ^ 24
+    + getD b (i + 4) 0 * 2 ^ 32 + getD b (i + 5) 0 * 2 ^ 40 + getD b (i + 6) 0 * 2 ^ 48 + getD b (i + 7) 0 * 2 ^ 56
+
 unfoldable pub number16 : List ℕ → ℕ
-number16 b =
-    getD b 0 0 + getD b 1 0 * 2 ^ 8 + getD b 2 0 * 2 ^ 16 + getD b 3 0 * 2 ^ 24
-    + getD b 4 0 * 2 ^ 32 + getD b 5 0 * 2 ^ 40 + getD b 6 0 * 2 ^ 48 + getD b 7 0 * 2 ^ 56
-    + getD b 8 0 * 2 ^ 64 + getD b 9 0 * 2 ^ 72 + getD b 10 0 * 2 ^ 80 + getD b 11 0 * 2 ^ 88
-    + getD b 12 0 * 2 ^ 96 + getD b 13 0 * 2 ^ 104 + getD b 14 0 * 2 ^ 112 + getD b 15 0 * 2 ^ 120
+number16 b = number8 b 0 + number8 b 8 * 2 ^ 64
 
 -- the unit number of a frame
 abbrev pub unit : ℕ → List ℕ

@@ -1,9 +1,9 @@
 // XTS of IEEE 1619 on a frame of eight blocks, in place.
 ghost use mathlib.Core.List.{_++_};
 ghost use mathlib.Core.Path.{_≡_};
-ghost use Prim.Native.Nat.{ℕ, _+_, _≤_};
+ghost use Prim.Native.Nat.{ℕ, _+_, _*_, _^_, _≤_};
 ghost use lib.ListN.{length, take, drop};
-ghost use Rattle.sealing.specs.Xts.{bytes16, number16, carried, unit, added, doubled, tweaks as tweaksOf, masked, blocks as blocksOf, joined, xts};
+ghost use Rattle.sealing.specs.Xts.{bytes16, number16, number8, carried, unit, added, doubled, tweaks as tweaksOf, masked, blocks as blocksOf, joined as joinedOf, xts};
 use engine::Engine;
 
 const HIGH_BIT: u128 = 1 << 127;
@@ -35,10 +35,29 @@ fn double(t: [u8; 16]) -> [u8; 16]
     bytes((x << 1) ^ carry(x))
 }
 
+// The halves of sixteen bytes: one load each, where a number of 128 bits is put together byte by byte.
+fn low(b: &[u8; 16]) -> u64
+    ensures { λ r. ⌜ r ≡ number8 (now (b .entry)) 0 ⌝ }
+{
+    u64::from_le_bytes([b[0], b[1], b[2], b[3], b[4], b[5], b[6], b[7]])
+}
+
+fn high(b: &[u8; 16]) -> u64
+    ensures { λ r. ⌜ r ≡ number8 (now (b .entry)) 8 ⌝ }
+{
+    u64::from_le_bytes([b[8], b[9], b[10], b[11], b[12], b[13], b[14], b[15]])
+}
+
+fn joined(low: u64, high: u64) -> u128
+    ensures { λ r. ⌜ r ≡ low + high * 2 ^ 64 ⌝ }
+{
+    (high as u128) << 64 | low as u128
+}
+
 fn add(block: &mut [u8; 16], t: &[u8; 16])
     ensures { λ _. ⌜ now (block .exit) ≡ added (now (block .entry)) (now (t .entry)) ⌝ }
 {
-    *block = bytes(number(*block) ^ number(*t));
+    *block = bytes(joined(low(block) ^ low(t), high(block) ^ high(t)));
 }
 
 fn tweaks(t0: [u8; 16]) -> [[u8; 16]; 8]
@@ -97,7 +116,7 @@ fn put(frame: &mut [u8; 128], at: usize, block: &[u8; 16])
 }
 
 fn join(blocks: &[[u8; 16]; 8], frame: &mut [u8; 128])
-    ensures { λ _. ⌜ now (frame .exit) ≡ joined (now (blocks .entry)) ⌝ }
+    ensures { λ _. ⌜ now (frame .exit) ≡ joinedOf (now (blocks .entry)) ⌝ }
 {
     for i in 0..8usize {
         put(frame, 16 * i, &blocks[i]);

@@ -1,10 +1,9 @@
 use Prim.Native.Nat.{ℕ}
 use mathlib.Core.List.{List, [], _∷_}
-use mathlib.Core.Path.{ap, ap₂, _∙_}
+use mathlib.Core.Path.{ap₂}
 use lib.ListN.{getD}
-use Rattle.camellia.specs.Numbers.{bytes8}
 use Rattle.camellia.specs.Cipher.{toBytes}
-use Rattle.camellia_rounds.proofs.engine.join.Needs as need
+use Rattle.camellia_rounds.proofs.bytes.block.Needs as need
 
 -- sixteen bytes read out of two arrays
 read : List ℕ → List ℕ → List ℕ
@@ -14,4 +13,4 @@ read xs ys =
 
 pub returns : need.returns
 unfolding toBytes read
-returns g c = ap₂ read (c .to-be-bytes .ensures ∙ ap bytes8 (c .number .ensures)) (c .to-be-bytes-2 .ensures ∙ ap bytes8 (c .number-2 .ensures))
+returns c = ap₂ read (c .eight .ensures) (c .eight-2 .ensures)

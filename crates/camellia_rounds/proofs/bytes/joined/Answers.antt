@@ -3,7 +3,7 @@ use mathlib.Core.Path.{_≡_, ap, _∙_}
 use native.Mathlib.Omega.{arith}
 use borrow.Author.Needs.{needs}
 use lib.Bits.{bitOr, or-shifted}
-use Rattle.camellia_rounds.proofs.expand.joined.Needs as need
+use Rattle.camellia_rounds.proofs.bytes.joined.Needs as need
 
 pub returns : need.returns
 returns c =

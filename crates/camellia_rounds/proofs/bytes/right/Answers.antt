@@ -1,5 +1,5 @@
 use lib.Bits.{and-mask}
-use Rattle.camellia_rounds.proofs.expand.right.Needs as need
+use Rattle.camellia_rounds.proofs.bytes.right.Needs as need
 
 pub returns : need.returns
 returns c = and-mask (c .args .x) 64

@@ -1,0 +1,11 @@
+use Prim.Native.Nat.{ℕ, _<_, _+_, _%_, _^_, _*_}
+use mathlib.Core.Path.{_≡_, ap, _∙_}
+use native.Mathlib.Omega.{arith}
+use borrow.Author.Needs.{needs}
+use lib.Bits.{bitOr, or-shifted}
+use Rattle.sealing.proofs.xts.joined.Needs as need
+
+pub returns : need.returns
+returns c =
+    let e : (c .args .high * 2 ^ 64) % 2 ^ 128 ≡ c .args .high * 2 ^ 64 = omega arith in
+    ap (λ t. bitOr t (c .args .low)) e ∙ or-shifted (c .args .high) 64 (c .args .low) (search needs) ∙ omega arith
