@@ -1,9 +1,9 @@
 -- The eight tables of F: a byte substituted, at each place that its column of P has.
-use Prim.Native.Nat.{ℕ, _*_}
+use Prim.Native.Nat.{ℕ, _*_, _/_, _%_, _^_}
 use mathlib.Core.List.{List, [], _∷_, map}
 use lib.ListN.{getD}
 use Rattle.std.specs.Iters.{counting}
-use Rattle.camellia.specs.Numbers.{rotl, rotr}
+use Rattle.camellia.specs.Numbers.{rotl, rotr, _⊕_}
 
 -- SBOX1 once more, as a list that computes where a contract cites it
 abbrev box1 : List ℕ
@@ -51,6 +51,16 @@ columns =
 -- what the byte y at place i of a half adds to F
 abbrev pub spread : ℕ → ℕ → ℕ
 spread i y = getD boxes i t1 y * getD columns i 0
+
+-- S and P of y, by its bytes
+abbrev pub sums : ℕ → ℕ
+sums y =
+    spread 0 (y / 2 ^ 56 % 256) ⊕ spread 1 (y / 2 ^ 48 % 256) ⊕ spread 2 (y / 2 ^ 40 % 256) ⊕ spread 3 (y / 2 ^ 32 % 256)
+    ⊕ spread 4 (y / 2 ^ 24 % 256) ⊕ spread 5 (y / 2 ^ 16 % 256) ⊕ spread 6 (y / 2 ^ 8 % 256) ⊕ spread 7 (y % 256)
+
+-- the two 32-bit parts of a half
+abbrev pub partsOf : ℕ → ℕ × ℕ
+partsOf x = (x / 2 ^ 32, x % 2 ^ 32)
 
 abbrev pub tables : List (List ℕ)
 tables = map (λ i. map (spread i) (counting 0 256)) (counting 0 8)

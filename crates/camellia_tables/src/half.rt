@@ -1,8 +1,8 @@
 ghost use mathlib.Core.Path.{_≡_};
-ghost use Prim.Native.Nat.{ℕ, _/_, _%_, _^_, _<_};
+ghost use Prim.Native.Nat.{ℕ, _%_, _<_};
 ghost use Rattle.camellia.specs.Functions.{F, FL, FLINV};
-ghost use Rattle.camellia_rounds.specs.Parts.{whole as wholeOf};
-ghost use Rattle.camellia_tables.specs.Columns.{spread};
+ghost use Rattle.camellia_rounds.specs.Parts.{whole as wholeOf, flOf, flInverseOf};
+ghost use Rattle.camellia_tables.specs.Columns.{spread, sums as sumsOf, partsOf};
 use crate::table::tables;
 use camellia_rounds::parts;
 
@@ -14,10 +14,10 @@ fn sp(i: usize, y: u64) -> u64
     tables()[i][(y & 0xff) as usize]
 }
 
-pub fn f(x: u64, k: u64) -> u64
-    ensures { λ r. ⌜ r ≡ F x k ⌝ }
+// S and P: each byte through the table of its place.
+fn sums(y: u64) -> u64
+    ensures { λ r. ⌜ r ≡ sumsOf y ⌝ }
 {
-    let y = x ^ k;
     sp(0, y >> 56)
         ^ sp(1, y >> 48)
         ^ sp(2, y >> 40)
@@ -28,26 +28,44 @@ pub fn f(x: u64, k: u64) -> u64
         ^ sp(7, y)
 }
 
-pub fn split(x: u64) -> (u32, u32)
-    ensures { λ r. ⌜ r ≡ (x / 2 ^ 32, x % 2 ^ 32) ⌝ }
+pub fn f(x: u64, k: u64) -> u64
+    ensures { λ r. ⌜ r ≡ F x k ⌝ }
 {
-    ((x >> 32) as u32, (x & 0xffff_ffff) as u32)
+    sums(x ^ k)
+}
+
+pub fn split(x: u64) -> (u32, u32)
+    ensures { λ r. ⌜ r ≡ partsOf x ⌝ }
+{
+    ((x >> 32) as u32, (x % 0x1_0000_0000) as u32)
 }
 
 pub fn whole(parts: (u32, u32)) -> u64
     ensures { λ r. ⌜ r ≡ wholeOf parts ⌝ }
 {
-    (parts.0 as u64) << 32 | parts.1 as u64
+    parts.0 as u64 * 0x1_0000_0000 + parts.1 as u64
+}
+
+fn fl_by_parts(x: u64, k: u64) -> u64
+    ensures { λ r. ⌜ r ≡ wholeOf (flOf (partsOf x) (partsOf k)) ⌝ }
+{
+    whole(parts::fl(split(x), split(k)))
+}
+
+fn fl_inverse_by_parts(y: u64, k: u64) -> u64
+    ensures { λ r. ⌜ r ≡ wholeOf (flInverseOf (partsOf y) (partsOf k)) ⌝ }
+{
+    whole(parts::fl_inverse(split(y), split(k)))
 }
 
 pub fn fl(x: u64, k: u64) -> u64
     ensures { λ r. ⌜ r ≡ FL x k ⌝ }
 {
-    whole(parts::fl(split(x), split(k)))
+    fl_by_parts(x, k)
 }
 
 pub fn fl_inverse(y: u64, k: u64) -> u64
     ensures { λ r. ⌜ r ≡ FLINV y k ⌝ }
 {
-    whole(parts::fl_inverse(split(y), split(k)))
+    fl_inverse_by_parts(y, k)
 }

@@ -8,11 +8,6 @@ use Rattle.camellia.proofs.Range.{s1-lt, s2-lt, s3-lt, s4-lt}
 use Rattle.camellia_tables.proofs.Sums.{columns-P}
 use Rattle.camellia_tables.proofs.half.f.Needs as need
 
-sum-of : {a b c d e f g h a′ b′ c′ d′ e′ f′ g′ h′ : ℕ}
-    → a ≡ a′ → b ≡ b′ → c ≡ c′ → d ≡ d′ → e ≡ e′ → f ≡ f′ → g ≡ g′ → h ≡ h′
-    → a ⊕ b ⊕ c ⊕ d ⊕ e ⊕ f ⊕ g ⊕ h ≡ a′ ⊕ b′ ⊕ c′ ⊕ d′ ⊕ e′ ⊕ f′ ⊕ g′ ⊕ h′
-sum-of p q r s t u v w = λ i. p i ⊕ q i ⊕ r i ⊕ s i ⊕ t i ⊕ u i ⊕ v i ⊕ w i
-
 pub returns : need.returns
 unfolding F PS s1 s1table
 returns c =
@@ -25,6 +20,6 @@ returns c =
     let b6 : ℕ = y / 2 ^ 16 % 256 in
     let b7 : ℕ = y / 2 ^ 8 % 256 in
     let b8 : ℕ = y % 256 in
-    sum-of (c .sp .ensures) (c .sp-2 .ensures) (c .sp-3 .ensures) (c .sp-4 .ensures) (c .sp-5 .ensures) (c .sp-6 .ensures) (c .sp-7 .ensures) (c .sp-8 .ensures)
+    c .sums .ensures
     ∙ columns-P (s1 b1) (s2 b2) (s3 b3) (s4 b4) (s2 b5) (s3 b6) (s4 b7) (s1 b8)
     (s1-lt b1) (s2-lt b2) (s3-lt b3) (s4-lt b4) (s2-lt b5) (s3-lt b6) (s4-lt b7) (s1-lt b8)
