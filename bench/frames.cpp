@@ -4,25 +4,19 @@
  *
  * How it measures. All contenders first seal and open the same frames, and must
  * agree. Then for each key length and direction there are ROUNDS rounds; in each,
- * every contender in turn does FRAMES frames. Time per frame is the median of the
+ * every contender in turn does UNITS frames. Time per frame is the median of the
  * rounds, and a ratio is the peer's time divided by ours: above 1, ours is faster.
  *
  * What is timed. With key set-up: both key schedules, the tweak and the frame, in
  * each call. Ours also copies the pair before each call, since a call zeroes it;
  * the peers wipe nothing. Objects and handles of the peers are made before the
- * clock starts. With schedules kept: tweak and frame only. Our functions keep no
- * schedule between calls, so they have no part in that table.
+ * clock starts. With schedules kept: tweak and frame. The functions of savecard.h
+ * keep no schedule, so ours are there those of calls.rt.in, the same code with one
+ * set-up for the UNITS frames. blocks.cpp adds blocks and key schedules alone.
  */
-#include <algorithm>
 #include <cstdint>
-#include <cstdio>
-#include <cstdlib>
 #include <cstring>
 #include <memory>
-#include <string>
-#include <vector>
-
-#include <time.h>
 
 #include <botan/cipher_mode.h>
 #include <botan/version.h>
@@ -36,16 +30,9 @@
 #include <openssl/camellia.h>
 #include <openssl/crypto.h>
 
+#include "calls.h"
+#include "measure.h"
 #include "savecard.h"
-
-static const int ROUNDS = 15;
-static const int FRAMES = 1000;
-
-static void die(const std::string &what)
-{
-    fprintf(stderr, "error: %s\n", what.c_str());
-    exit(1);
-}
 
 /* The frame number as XTS takes it: 16 bytes, the least significant first. */
 struct Unit {
@@ -72,6 +59,14 @@ public:
     /* sets up the keys, to be kept for calls of kept */
     virtual void set_up() = 0;
     virtual void kept(uint64_t number, uint8_t *frame) = 0;
+    /* sets up the keys once, then does the frames 0 to count - 1 one over the other */
+    virtual void many(int count, uint8_t *frame)
+    {
+        set_up();
+        for (int i = 0; i < count; i++) {
+            kept((uint64_t)i, frame);
+        }
+    }
 };
 
 struct Setting {
@@ -87,7 +82,10 @@ typedef uint32_t frame_function(uint8_t *, size_t, uint64_t, uint8_t *, size_t);
 
 class Ours : public Contender {
 public:
-    Ours(const Setting &s, frame_function *seal, frame_function *open) : s(s), call(s.opens ? open : seal) {}
+    Ours(const Setting &s, frame_function *seal, frame_function *open, bench_function *seal_many, bench_function *open_many)
+        : s(s), call(s.opens ? open : seal), call_many(s.opens ? open_many : seal_many)
+    {
+    }
     void fresh(uint64_t number, uint8_t *frame) override
     {
         uint8_t copy[SAVECARD_PAIR_256];
@@ -98,10 +96,17 @@ public:
     }
     void set_up() override { die("our functions keep no schedule"); }
     void kept(uint64_t, uint8_t *) override { die("our functions keep no schedule"); }
+    void many(int count, uint8_t *frame) override
+    {
+        if (call_many(s.pair, s.pair_len, (uint64_t)count, frame, SAVECARD_FRAME) != 0) {
+            die("our function refused frames");
+        }
+    }
 
 private:
     Setting s;
     frame_function *call;
+    bench_function *call_many;
 };
 
 /* ---- libgcrypt ---- */
@@ -282,134 +287,67 @@ private:
 
 /* ---- measuring ---- */
 
-struct Entry {
-    std::string name;
-    std::unique_ptr<Contender> contender;
-    std::vector<double> times; /* ns per frame, one for each round */
+static const std::vector<std::string> NAMES = {"ours, byte", "ours, word", "ours, long", "libgcrypt", "botan", "Crypto++", "nettle", "OpenSSL's block, C loop"};
 
-    Entry(const std::string &name, Contender *contender) : name(name), contender(contender) {}
-    double median() const
-    {
-        std::vector<double> sorted = times;
-        std::sort(sorted.begin(), sorted.end());
-        return sorted[sorted.size() / 2]; /* ROUNDS is odd */
-    }
-};
-
-static const size_t OURS = 3; /* the first three entries */
-
-static std::vector<Entry> entries_for(const Setting &s)
+static std::vector<std::unique_ptr<Contender>> contenders_for(const Setting &s)
 {
     typedef CryptoPP::XTS_Mode<CryptoPP::Camellia> Xts;
-    std::vector<Entry> all;
+    std::vector<std::unique_ptr<Contender>> all;
 
-    all.emplace_back("byte", new Ours(s, savecard_seal_byte, savecard_open_byte));
-    all.emplace_back("word", new Ours(s, savecard_seal_word, savecard_open_word));
-    all.emplace_back("long", new Ours(s, savecard_seal_long, savecard_open_long));
-    all.emplace_back("libgcrypt", new Gcrypt(s));
-    all.emplace_back("botan", new BotanMode(s));
-    all.emplace_back("Crypto++", s.opens ? (Contender *)new CryptoppMode<Xts::Decryption>(s) : new CryptoppMode<Xts::Encryption>(s));
-    all.emplace_back("nettle", new Nettle(s));
-    all.emplace_back("OpenSSL's block", new Openssl(s));
+    all.emplace_back(new Ours(s, savecard_seal_byte, savecard_open_byte, bench_seal_byte, bench_open_byte));
+    all.emplace_back(new Ours(s, savecard_seal_word, savecard_open_word, bench_seal_word, bench_open_word));
+    all.emplace_back(new Ours(s, savecard_seal_long, savecard_open_long, bench_seal_long, bench_open_long));
+    all.emplace_back(new Gcrypt(s));
+    all.emplace_back(new BotanMode(s));
+    all.emplace_back(s.opens ? (Contender *)new CryptoppMode<Xts::Decryption>(s) : new CryptoppMode<Xts::Encryption>(s));
+    all.emplace_back(new Nettle(s));
+    all.emplace_back(new Openssl(s));
     return all;
 }
 
-static double now()
-{
-    struct timespec t;
-    clock_gettime(CLOCK_MONOTONIC, &t);
-    return (double)t.tv_sec * 1e9 + (double)t.tv_nsec;
-}
-
 /* All contenders must give the same bytes, with key set-up and without. */
-static void must_agree(std::vector<Entry> &entries)
+static void must_agree(std::vector<std::unique_ptr<Contender>> &contenders)
 {
     static const uint64_t numbers[] = {0, 1, 1023, 0x123456789abcdef0u, 0xffffffffffffffffu};
 
     for (uint64_t number : numbers) {
-        uint8_t given[SAVECARD_FRAME], first[SAVECARD_FRAME], frame[SAVECARD_FRAME];
+        uint8_t given[SAVECARD_FRAME], first[SAVECARD_FRAME], first_many[SAVECARD_FRAME], frame[SAVECARD_FRAME];
         for (size_t i = 0; i < sizeof given; i++) {
             given[i] = (uint8_t)(5 * i + number);
         }
-        for (size_t e = 0; e < entries.size(); e++) {
+        for (size_t c = 0; c < contenders.size(); c++) {
             memcpy(frame, given, sizeof frame);
-            entries[e].contender->fresh(number, frame);
-            if (e == 0) {
+            contenders[c]->fresh(number, frame);
+            if (c == 0) {
                 memcpy(first, frame, sizeof first);
             } else if (memcmp(frame, first, sizeof frame) != 0) {
-                die(entries[e].name + " gives other bytes");
+                die(NAMES[c] + " gives other bytes");
             }
-            if (e >= OURS) {
+            if (c >= OURS) {
                 memcpy(frame, given, sizeof frame);
-                entries[e].contender->set_up();
-                entries[e].contender->kept(number, frame);
+                contenders[c]->set_up();
+                contenders[c]->kept(number, frame);
                 if (memcmp(frame, first, sizeof frame) != 0) {
-                    die(entries[e].name + " gives other bytes with a kept schedule");
+                    die(NAMES[c] + " gives other bytes with a kept schedule");
                 }
             }
-        }
-    }
-}
-
-static void measure(std::vector<Entry> &entries, size_t from, bool fresh)
-{
-    uint8_t frame[SAVECARD_FRAME] = {0};
-
-    for (Entry &entry : entries) {
-        entry.times.clear();
-    }
-    for (int round = -1; round < ROUNDS; round++) { /* round -1 only warms up */
-        for (size_t e = from; e < entries.size(); e++) {
-            Contender &contender = *entries[e].contender;
-            if (!fresh) {
-                contender.set_up();
-            }
-            double start = now();
-            for (int i = 0; i < FRAMES; i++) {
-                if (fresh) {
-                    contender.fresh((uint64_t)i, frame);
-                } else {
-                    contender.kept((uint64_t)i, frame);
-                }
-            }
-            double time = (now() - start) / FRAMES;
-            if (round >= 0) {
-                entries[e].times.push_back(time);
+            memcpy(frame, given, sizeof frame);
+            contenders[c]->many(5, frame);
+            if (c == 0) {
+                memcpy(first_many, frame, sizeof first_many);
+            } else if (memcmp(frame, first_many, sizeof frame) != 0) {
+                die(NAMES[c] + " gives other bytes for frames with a kept schedule");
             }
         }
-    }
-}
-
-static void print_fresh(const std::vector<Entry> &entries)
-{
-    size_t fastest = OURS;
-
-    printf("  %-28s %8s   %6s %6s %6s\n", "", "ns/frame", "byte", "word", "long");
-    for (size_t e = 0; e < OURS; e++) {
-        printf("  %-28s %8.0f\n", ("ours, " + entries[e].name).c_str(), entries[e].median());
-    }
-    for (size_t e = OURS; e < entries.size(); e++) {
-        if (entries[e].median() < entries[fastest].median()) {
-            fastest = e;
-        }
-    }
-    for (size_t e = OURS; e <= entries.size(); e++) {
-        const Entry &peer = e < entries.size() ? entries[e] : entries[fastest];
-        const std::string name = e < entries.size() ? peer.name : "the fastest: " + peer.name;
-        printf("  %-28s %8.0f  ", name.c_str(), peer.median());
-        for (size_t ours = 0; ours < OURS; ours++) {
-            printf(" %6.2f", peer.median() / entries[ours].median());
-        }
-        printf("\n");
     }
 }
 
 int main()
 {
     static const size_t lengths[] = {SAVECARD_PAIR_128, SAVECARD_PAIR_192, SAVECARD_PAIR_256};
-    uint8_t pair[SAVECARD_PAIR_256];
-    std::vector<std::vector<double>> kept; /* for each setting, the peers' times */
-    std::vector<std::string> peers;
+    Table fresh("Frames of 128 bytes, key set-up in each call; ns by frame.", NAMES);
+    Table kept("Frames of 128 bytes, schedules kept; ns by frame.", NAMES);
+    uint8_t pair[SAVECARD_PAIR_256], frame[SAVECARD_FRAME] = {0};
 
     for (size_t i = 0; i < sizeof pair; i++) {
         pair[i] = (uint8_t)(7 * i + 1);
@@ -423,38 +361,25 @@ int main()
     printf("libgcrypt %s; botan %s; Crypto++ %d.%d.%d; nettle %d.%d; %s\n", gcry_check_version(NULL),
            Botan::short_version_string().c_str(), CRYPTOPP_VERSION / 100, CRYPTOPP_VERSION / 10 % 10, CRYPTOPP_VERSION % 10,
            nettle_version_major(), nettle_version_minor(), OpenSSL_version(OPENSSL_VERSION));
-    printf("frames of %d bytes; medians of %d interleaved rounds of %d frames\n", SAVECARD_FRAME, ROUNDS, FRAMES);
-    printf("\nKey set-up in each call. Columns byte, word, long: our speed by that of the peer; above 1, ours is faster.\n");
+    printf("medians of %d interleaved rounds of %d units (%d keys); a ratio above 1: ours is faster\n", ROUNDS, UNITS, KEYS);
 
     for (size_t pair_len : lengths) {
         for (int opens = 0; opens < 2; opens++) {
             Setting s = {opens != 0, pair, pair_len};
-            std::vector<Entry> entries = entries_for(s);
+            std::vector<std::unique_ptr<Contender>> contenders = contenders_for(s);
+            const std::string setting = (opens ? "open " : "seal ") + std::to_string(s.key_len() * 8);
 
-            must_agree(entries);
-            printf("\n%s, keys of %d bits\n", opens ? "opening" : "sealing", (int)s.key_len() * 8);
-            measure(entries, 0, true);
-            print_fresh(entries);
-            fflush(stdout);
-
-            measure(entries, OURS, false);
-            kept.push_back(std::vector<double>());
-            peers.clear();
-            for (size_t e = OURS; e < entries.size(); e++) {
-                kept.back().push_back(entries[e].median());
-                peers.push_back(entries[e].name);
-            }
+            must_agree(contenders);
+            fresh.add(setting, medians(NAMES.size(), UNITS, [&](size_t c) {
+                          for (int i = 0; i < UNITS; i++) {
+                              contenders[c]->fresh((uint64_t)i, frame);
+                          }
+                      }));
+            kept.add(setting, medians(NAMES.size(), UNITS, [&](size_t c) { contenders[c]->many(UNITS, frame); }));
         }
     }
-
-    printf("\nSchedules kept between calls, ns per frame. Our functions keep none: for them each call is a call with key set-up, above.\n\n");
-    printf("  %-20s %10s %10s %10s %10s %10s %10s\n", "", "seal 128", "open 128", "seal 192", "open 192", "seal 256", "open 256");
-    for (size_t p = 0; p < peers.size(); p++) {
-        printf("  %-20s", peers[p].c_str());
-        for (const std::vector<double> &times : kept) {
-            printf(" %10.0f", times[p]);
-        }
-        printf("\n");
-    }
+    fresh.print();
+    kept.print();
+    blocks_and_schedules();
     return 0;
 }

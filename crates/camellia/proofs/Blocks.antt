@@ -5,7 +5,7 @@ use mathlib.Core.List.{List, [], _∷_, _++_, map, reverse}
 use native.Mathlib.Omega.{arith}
 use lib.ListN.{length, getD}
 use Rattle.std.proofs.shelf.Equals.{text-from-reads}
-use Rattle.engine.specs.Block.{Bytes, Block}
+use Rattle.octets.specs.Octets.{Bytes, Block}
 use Rattle.camellia.specs.Numbers.{join8, halfAt, bytes8}
 use Rattle.camellia.specs.Rounds.{State, st}
 use Rattle.camellia.specs.Cipher.{toState, toBytes}

@@ -8,7 +8,7 @@ use lib.Bits.{bitOr, bitXor, or-lt, xor-lt}
 use lib.Dec.{eqb}
 use lib.ListN.{length, getD}
 use Rattle.std.proofs.shelf.Bits.{shr-le}
-use Rattle.engine.specs.Block.{Bytes}
+use Rattle.octets.specs.Octets.{Bytes}
 use Rattle.camellia.specs.Numbers.{rotl, halfAt}
 use Rattle.camellia.specs.Functions.{F}
 use Rattle.camellia.specs.Rounds.{State, st, step, run, swapped, whitened}

@@ -2,7 +2,7 @@
 use mathlib.Core.Path.{_≡_, sym, ap, _∙_}
 use mathlib.Core.List.{List}
 use Prim.Native.Nat.{ℕ}
-use Rattle.engine.specs.Block.{Block}
+use Rattle.octets.specs.Octets.{Block}
 use Rattle.camellia.specs.Keys.{Schedule, schedule, reversed}
 use Rattle.camellia.specs.Cipher.{encrypt, toState, toBytes, enciphered, deciphered, E, D}
 use Rattle.camellia.specs.Laws.{Undone, Sized}

@@ -7,8 +7,8 @@ ghost use Rattle.camellia.specs.Cipher.{enciphered, deciphered, E, D};
 ghost use Rattle.camellia.specs.Laws.{takes as takesOf};
 ghost use Rattle.camellia_fold.specs.Fold.{fold};
 ghost use Rattle.camellia_subkeys.specs.Groups.{scheduleOf};
-use camellia_rounds::bytes::half_at;
-use camellia_rounds::bytes::halves_at;
+use crate::bytes::half_at;
+use crate::bytes::halves_at;
 use camellia_rounds::bytes::joined;
 use camellia_subkeys::keys::FoldedKeys;
 

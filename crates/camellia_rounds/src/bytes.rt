@@ -25,8 +25,8 @@ pub fn joined(left: u64, right: u64) -> u128
     (left as u128) << 64 | right as u128
 }
 
-// The eight bytes from a place on, the most significant first. Public for the other path: it asks that they are there.
-pub fn half_at(bytes: &[u8], at: usize) -> u64
+// The eight bytes from a place on, the most significant first.
+pub(crate) fn half_at(bytes: &[u8], at: usize) -> u64
     requires { ⌜ at + 8 ≤ length (now bytes) ⌝ }
     ensures { λ r. ⌜ r ≡ halfAt (now (bytes .entry)) at ⌝ }
 {
@@ -43,7 +43,7 @@ pub fn half_at(bytes: &[u8], at: usize) -> u64
 }
 
 // The sixteen bytes from a place on, likewise.
-pub fn halves_at(bytes: &[u8], at: usize) -> u128
+pub(crate) fn halves_at(bytes: &[u8], at: usize) -> u128
     requires { ⌜ at + 16 ≤ length (now bytes) ⌝ }
     ensures { λ r. ⌜ r ≡ joinedOf (halfAt (now (bytes .entry)) at) (halfAt (now (bytes .entry)) (at + 8)) ⌝ }
 {

@@ -8,7 +8,7 @@ use Rattle.std.specs.declared.result.Result.{Result}
 use Rattle.std.specs.declared.result.Result.the-variants.{Ok, Err}
 use Rattle.refusal.specs.declared.Refusal.{Refusal}
 use Rattle.refusal.specs.declared.Refusal.the-variants.{KeyLength}
-use Rattle.engine.specs.Block.{Bytes, Block}
+use Rattle.octets.specs.Octets.{Bytes, Block}
 
 -- eight letters from a to z
 pub record EightLetters (name : List ℕ) : Type 0 where

@@ -6,7 +6,7 @@ use native.Mathlib.Omega.{arith}
 use lib.Bits.{bitXor, xor-block, xor-lt, xor-assoc, xor-self, xor-zero-r}
 use lib.ListN.{length, getD}
 use Rattle.std.proofs.shelf.Equals.{text-from-reads}
-use Rattle.engine.specs.Block.{Bytes, Block}
+use Rattle.octets.specs.Octets.{Bytes, Block}
 use Rattle.sealing.specs.Xts.{bytes16, number8, number16, added, doubled}
 
 pub number-bytes : (x : ℕ) → x < 2 ^ 128 → number16 (bytes16 x) ≡ x

@@ -6,9 +6,8 @@ use native.Mathlib.Omega.{arith}
 use lib.ListN.{length, take, drop, getD, replicate, length-append, length-take, length-drop}
 use lib.Seq.{getD-drop, getD-take}
 use Rattle.std.proofs.shelf.Lists.{take-at, drop-at, take-append-drop}
-use Rattle.engine.specs.Block.{Bytes, Block}
+use Rattle.octets.specs.Octets.{Bytes, Block, Frame}
 use Rattle.sealing.specs.Xts.{unit, added, doubled, tweaks, masked, blocks, joined, xts}
-use Rattle.sealing.specs.Laws.{Frame}
 use Rattle.sealing.proofs.Sixteen.{bytes-block, added-block, added-twice}
 
 -- every one is a block

@@ -3,14 +3,9 @@ use Prim.Native.Nat.{ℕ}
 use mathlib.Core.Bool.{Bool}
 use mathlib.Core.List.{List}
 use mathlib.Core.Path.{_≡_}
-use lib.ListN.{length}
-use Rattle.engine.specs.Block.{Bytes}
+use Rattle.octets.specs.Octets.{Frame}
 use Rattle.engine.specs.Kind.{Key}
 use Rattle.sealing.specs.Xts.{xts}
-
-pub record Frame (f : List ℕ) : Type 0 where
-  pub long : length f ≡ 128
-  pub bytes : Bytes f
 
 -- for a cipher with its inverse, under any data key and tweak key that are taken
 module _ (takes : ℕ → Bool) (cipher inverse : List ℕ → List ℕ → List ℕ) where

@@ -1,0 +1,32 @@
+// Frames in the bytes of an image, each in a slot of 128 bytes.
+ghost use mathlib.Core.Path.{_≡_};
+ghost use Prim.Native.Nat.{_+_, _*_, _<_, _≤_};
+ghost use lib.ListN.{length};
+ghost use Rattle.store.specs.Frames.{frameCount, frameAt, placed};
+
+pub(crate) const SIZE: usize = 128;
+
+// A card has no more frames than this.
+pub(crate) const MOST: usize = 1024;
+
+pub(crate) fn count_in(len: usize) -> usize
+    ensures { λ r. ⌜ r ≡ frameCount len ⌝ }
+{
+    (len / SIZE).min(MOST)
+}
+
+pub(crate) fn get(image: &[u8], slot: usize, buffer: &mut [u8])
+    requires { ⌜ slot < 1024 ⌝ ∗ ⌜ slot * 128 + 128 ≤ length (now image) ⌝ ∗ ⌜ length (now buffer) ≡ 128 ⌝ }
+    ensures { λ _. ⌜ now (buffer .exit) ≡ frameAt (now (image .entry)) slot ⌝ }
+{
+    let at = slot * SIZE;
+    buffer.copy_from_slice(&image[at..at + SIZE]);
+}
+
+pub(crate) fn put(image: &mut [u8], slot: usize, buffer: &[u8])
+    requires { ⌜ slot < 1024 ⌝ ∗ ⌜ slot * 128 + 128 ≤ length (now image) ⌝ ∗ ⌜ length (now buffer) ≡ 128 ⌝ }
+    ensures { λ _. ⌜ now (image .exit) ≡ placed (now (image .entry)) slot (now (buffer .entry)) ⌝ }
+{
+    let at = slot * SIZE;
+    image[at..at + SIZE].copy_from_slice(buffer);
+}
