@@ -2,7 +2,7 @@
 ghost use mathlib.Core.Bool.{true, _||_};
 ghost use mathlib.Core.List.{[]};
 ghost use mathlib.Core.Path.{_≡_};
-ghost use Prim.Native.Nat.{ℕ, _≤_};
+ghost use Prim.Native.Nat.{ℕ, _+_, _<_, _≤_};
 ghost use lib.Dec.{eqb};
 ghost use lib.ListN.{length, set, take};
 ghost use Rattle.std.specs.Of.Vec.{vec-items};
@@ -38,6 +38,16 @@ fn contains(marks: &[u64], n: u64) -> bool
     false
 }
 
+// One mark more; how many places are used then.
+fn add(marks: &mut [u64; 20], used: usize, n: u64) -> usize
+    requires { ⌜ used < 20 ⌝ }
+    ensures used { λ r. ⌜ r ≡ used + 1 ⌝ }
+    ensures marks { λ _. ⌜ now (marks .exit) ≡ set (now (marks .entry)) used n ⌝ }
+{
+    marks[used] = n;
+    used + 1
+}
+
 impl Dump {
     pub fn new(image: FlatImage) -> Self
         ensures image { λ r. ⌜ r .image ≡ image ⌝ }
@@ -65,8 +75,7 @@ impl Dump {
         if self.used == ROOM {
             return Err(Refusal::TooManyWorn(n));
         }
-        self.marks[self.used] = n;
-        self.used += 1;
+        self.used = add(&mut self.marks, self.used, n);
         Ok(())
     }
 

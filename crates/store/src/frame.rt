@@ -15,11 +15,26 @@ pub(crate) fn count_in(len: usize) -> usize
     (len / SIZE).min(MOST)
 }
 
+// Where a slot begins.
+fn start(slot: usize) -> usize
+    requires { ⌜ slot < 1024 ⌝ }
+    ensures { λ r. ⌜ r ≡ slot * 128 ⌝ }
+{
+    slot * SIZE
+}
+
+fn fill(slot: &mut [u8], buffer: &[u8])
+    requires { ⌜ length (now slot) ≡ 128 ⌝ ∗ ⌜ length (now buffer) ≡ 128 ⌝ }
+    ensures { λ _. ⌜ now (slot .exit) ≡ now (buffer .entry) ⌝ }
+{
+    slot.copy_from_slice(buffer);
+}
+
 pub(crate) fn get(image: &[u8], slot: usize, buffer: &mut [u8])
     requires { ⌜ slot < 1024 ⌝ ∗ ⌜ slot * 128 + 128 ≤ length (now image) ⌝ ∗ ⌜ length (now buffer) ≡ 128 ⌝ }
     ensures { λ _. ⌜ now (buffer .exit) ≡ frameAt (now (image .entry)) slot ⌝ }
 {
-    let at = slot * SIZE;
+    let at = start(slot);
     buffer.copy_from_slice(&image[at..at + SIZE]);
 }
 
@@ -27,6 +42,6 @@ pub(crate) fn put(image: &mut [u8], slot: usize, buffer: &[u8])
     requires { ⌜ slot < 1024 ⌝ ∗ ⌜ slot * 128 + 128 ≤ length (now image) ⌝ ∗ ⌜ length (now buffer) ≡ 128 ⌝ }
     ensures { λ _. ⌜ now (image .exit) ≡ placed (now (image .entry)) slot (now (buffer .entry)) ⌝ }
 {
-    let at = slot * SIZE;
-    image[at..at + SIZE].copy_from_slice(buffer);
+    let at = start(slot);
+    fill(&mut image[at..at + SIZE], buffer);
 }

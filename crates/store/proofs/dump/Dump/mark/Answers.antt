@@ -1,8 +1,7 @@
-use Prim.Native.Nat.{_+_}
 use mathlib.Core.List.{[], _∷_, _++_}
-use mathlib.Core.Path.{_≡_, refl, sym, ap, _∙_}
+use mathlib.Core.Path.{_≡_, refl, sym, ap, ap₂, _∙_}
 use native.Mathlib.Omega.{arith}
-use lib.ListN.{length, take, set}
+use lib.ListN.{length, take}
 use Rattle.std.specs.Of.Vec.{vec-items}
 use Rattle.std.proofs.shelf.Lists.{length-take-le, take-more-set}
 use Rattle.std.proofs.shelf.Tests.{cond-true, cond-false}
@@ -40,8 +39,9 @@ ghost-self c =
     let n = c .args .n in
     let N = frameCount (length (vec-items (d .image .bytes))) in
     let l = length-framesIn inOrder (vec-items (d .image .bytes)) in
-    let one : take (d .used + 1) (set (d .marks) (d .used) n) ≡ take (d .used) (d .marks) ++ n ∷ [] = take-more-set (d .marks) (d .used) n (omega arith) in
-    (omega arith, (ap (below N) one ∙ below-push N (take (d .used) (d .marks)) n (d .present) (omega arith), tt))
+    let one : take (c .add-self .result) (c .add-self .last .marks) ≡ take (d .used) (d .marks) ++ n ∷ [] =
+    ap₂ take (c .add-self .ensures .used) (c .add-self .ensures .marks) ∙ take-more-set (d .marks) (d .used) n (omega arith) in
+    (omega (arith, c .add-self .ensures .used), (ap (below N) one ∙ below-push N (take (d .used) (d .marks)) n (d .present) (omega arith), tt))
 
 pub returns : need.returns
 returns c =
@@ -51,6 +51,6 @@ returns c =
     let l = length-framesIn inOrder (vec-items (d .image .bytes)) in
     let is = sym (c .if-is-worn .ensures tt) in
     let room = length-take-le (d .used) (d .marks) (omega arith) in
-    let more : take (d .used + 1) (set (d .marks) (d .used) n) ≡ marked ms n =
-    take-more-set (d .marks) (d .used) n (omega arith) ∙ sym (cond-false (among ms n) ms (ms ++ n ∷ []) is) in
+    let more : take (c .add-self .result) (c .add-self .last .marks) ≡ marked ms n =
+    ap₂ take (c .add-self .ensures .used) (c .add-self .ensures .marks) ∙ take-more-set (d .marks) (d .used) n (omega arith) ∙ sym (cond-false (among ms n) ms (ms ++ n ∷ []) is) in
     record { answer = grind (arith, tells); marks = more; worn = λ k. ap (λ t. among t k) more ∙ among-marked ms n k; image = refl }
