@@ -1,13 +1,13 @@
 -- XTS with the inverse undoes XTS.
-use Prim.Native.Nat.{ℕ, zero, suc, _+_, _*_, _<_, _≤_}
+use Prim.Native.Nat.{ℕ, zero, suc, _+_, _*_}
 use mathlib.Core.List.{List, [], _∷_, _++_, map}
-use mathlib.Core.Path.{_≡_, refl, sym, ap, ap₂, _∙_}
+use mathlib.Core.Path.{_≡_, refl, ap, ap₂, _∙_}
 use native.Mathlib.Omega.{arith}
-use lib.ListN.{length, take, drop, getD, replicate, length-append, length-take, length-drop}
-use lib.Seq.{getD-drop, getD-take}
+use lib.ListN.{length, take, drop, length-take, length-drop}
 use Rattle.std.proofs.shelf.Lists.{take-at, drop-at, take-append-drop}
 use Rattle.octets.specs.Octets.{Bytes, Block, Frame}
-use Rattle.sealing.specs.Xts.{unit, added, doubled, tweaks, masked, blocks, joined, xts}
+use Rattle.octets.proofs.Bytes.{take-bytes, drop-bytes}
+use Rattle.sealing.specs.Xts.{unit, doubled, tweaks, masked, blocks, joined, xts}
 use Rattle.sealing.proofs.Sixteen.{bytes-block, added-block, added-twice}
 
 -- every one is a block
@@ -54,17 +54,6 @@ joined-blocks zero [] e = refl
 joined-blocks zero (x ∷ f) e = absurd (omega arith)
 joined-blocks (suc n) f e =
     ap (λ r. take 16 f ++ r) (joined-blocks n (drop 16 f) (length-drop 16 f ∙ omega arith)) ∙ take-append-drop 16 f
-
-take-bytes : (n : ℕ) (f : List ℕ) → Bytes f → Bytes (take n f)
-take-bytes zero f h i = omega arith
-take-bytes (suc n) [] h i = omega arith
-take-bytes (suc n) (x ∷ f) h zero = h 0
-take-bytes (suc n) (x ∷ f) h (suc i) = take-bytes n f (λ j. h (suc j)) i
-
-drop-bytes : (n : ℕ) (f : List ℕ) → Bytes f → Bytes (drop n f)
-drop-bytes zero f h i = h i
-drop-bytes (suc n) [] h i = omega arith
-drop-bytes (suc n) (x ∷ f) h i = drop-bytes n f (λ j. h (suc j)) i
 
 blocks-blocks : (n : ℕ) (f : List ℕ) → length f ≡ 16 * n → Bytes f → Blocks (blocks n f)
 unfolding blocks

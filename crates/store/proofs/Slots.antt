@@ -2,23 +2,23 @@
 use Prim.Native.Nat.{ℕ, _+_, _-_, _*_, _≤_, _<_}
 use mathlib.Core.Bool.{false}
 use mathlib.Core.List.{List, [], _++_, map}
-use mathlib.Core.Logic.{_≢_, _⊎_, ⊎-elim}
+use mathlib.Core.Logic.{_≢_, ⊎-elim}
 use mathlib.Core.Path.{_≡_, refl, sym, ap, _∙_}
 use native.Mathlib.Omega.{arith}
 use borrow.Author.Tests.{lt-ltb}
 use borrow.Rule.Slice.PartMut.{putMid}
-use lib.Dec.{lit<}
 use lib.ListN.{length, take, drop, getD, set, length-append}
 use Rattle.std.specs.Iters.{counting}
 use Rattle.std.specs.declared.result.Result.{Result}
 use Rattle.std.specs.declared.result.Result.the-variants.{Ok}
 use Rattle.std.proofs.shelf.Counted.{length-map-counting, getD-map-counting, fill-by-all}
-use Rattle.std.proofs.shelf.Lists.{drop-drop, getD-append-left, getD-append-right, getD-drop, getD-past, getD-take, getD-set-same, getD-set-other, length-drop, length-set, length-take, length-take-le}
+use Rattle.std.proofs.shelf.Lists.{drop-drop, getD-set-same, getD-set-other, length-drop, length-set, length-take-le}
 use Rattle.std.proofs.shelf.Parts.{between-is, between-putMid, drop-putMid, take-putMid-below}
-use Rattle.std.proofs.shelf.Tests.{cases-eq, cases-lt, cases-order}
+use Rattle.std.proofs.shelf.Tests.{cases-eq, cases-order}
 use Rattle.std.proofs.shelf.Ways.{tells}
 use Rattle.refusal.specs.declared.Refusal.{Refusal}
 use Rattle.octets.specs.Octets.{Bytes, Frame}
+use Rattle.octets.proofs.Bytes.{take-bytes, drop-bytes, append-bytes}
 use Rattle.store.specs.Answers.{callAnswer}
 use Rattle.store.specs.Frames.{frameCount, frameAt, placed, framesIn}
 
@@ -30,28 +30,10 @@ pub getD-framesIn : (slot : ℕ → ℕ) (s : List ℕ) (n : ℕ) → n < frameC
 unfolding framesIn
 getD-framesIn slot s n h = getD-map-counting (λ n. frameAt s (slot n)) 0 (frameCount (length s)) n n [] h (omega arith)
 
--- bytes stay bytes where a list is cut and put together
-bytes-take : (k : ℕ) (s : List ℕ) → Bytes s → Bytes (take k s)
-bytes-take k s octets i =
-    ⊎-elim
-    (λ (lt : i < k). rw (getD-take k s i 0 lt) (octets i))
-    (λ (le : k ≤ i). rw (getD-past (take k s) i 0 (simp length-take (omega arith))) (lit< tt))
-    (cases-lt i k)
-
-bytes-drop : (k : ℕ) (s : List ℕ) → Bytes s → Bytes (drop k s)
-bytes-drop k s octets i = rw (getD-drop k s i 0) (octets (k + i))
-
-bytes-++ : (s t : List ℕ) → Bytes s → Bytes t → Bytes (s ++ t)
-bytes-++ s t left right i =
-    ⊎-elim
-    (λ (lt : i < length s). rw (getD-append-left s t 0 i lt) (left i))
-    (λ (le : length s ≤ i). rw (getD-append-right s t (length s) i 0 refl le) (right (i - length s)))
-    (cases-lt i (length s))
-
 pub bytes-placed : (s x : List ℕ) (k : ℕ) → Bytes s → Bytes x → Bytes (placed s k x)
 bytes-placed s x k octets new =
-    bytes-++ (take (k * 128) s) (x ++ drop (k * 128 + 128) s) (bytes-take (k * 128) s octets)
-    (bytes-++ x (drop (k * 128 + 128) s) new (bytes-drop (k * 128 + 128) s octets))
+    append-bytes (take (k * 128) s) (x ++ drop (k * 128 + 128) s) (take-bytes (k * 128) s octets)
+    (append-bytes x (drop (k * 128 + 128) s) new (drop-bytes (k * 128 + 128) s octets))
 
 -- what an accepted call has passed
 pub passed : (slot : ℕ → ℕ) (s : List ℕ) (len n : ℕ) (r : Result (Unit {0}) Refusal) → r ≡ callAnswer len (length (framesIn slot s)) false n → r ≡ Ok tt
@@ -107,7 +89,7 @@ module _ (slot : ℕ → ℕ) (s : List ℕ) (among : (n : ℕ) → n < frameCou
       let f = slot-fits (length s) (slot n) (among n lt) in
       rw (getD-framesIn slot s n lt) (record {
         long = length-take-le 128 (drop (slot n * 128) s) (simp length-drop (omega arith));
-        bytes = bytes-take 128 (drop (slot n * 128) s) (bytes-drop (slot n * 128) s octets);
+        bytes = take-bytes 128 (drop (slot n * 128) s) (drop-bytes (slot n * 128) s octets);
       })
 
   module _ (x : List ℕ) (k : ℕ) (in′ : k < frameCount (length s)) (long : length x ≡ 128)
