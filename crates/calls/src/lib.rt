@@ -1,4 +1,6 @@
 // The calls of a card as values: requests that bring their own bytes, and replies.
+#![tactic(auto)]
+
 ghost use Rattle.std.specs.Prelude.{◌≡◌};
 ghost use Rattle.calls.specs.Replies.{state_number};
 

@@ -1,4 +1,6 @@
 // The byte path: a half is eight bytes, and s1 is the only table.
+#![tactic(auto)]
+
 pub mod half;
 mod sbox;
 

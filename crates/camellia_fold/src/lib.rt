@@ -1,4 +1,6 @@
 // Camellia with two whitening keys folded into the round keys, so that a block takes only kw1 and kw3.
+#![tactic(auto)]
+
 ghost use Rattle.camellia_fold.specs.Laws.{Folded};
 ghost use Rattle.camellia_fold.specs.Samples.{Samples};
 

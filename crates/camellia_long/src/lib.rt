@@ -1,4 +1,6 @@
 // Camellia by 64-bit tables, one block or the eight blocks of a frame at a time.
+#![tactic(auto)]
+
 mod bytes;
 pub mod cipher;
 mod eight;

@@ -1,4 +1,6 @@
 // Camellia over any form of a 64-bit half: the tables of subkeys, the key schedule, the rounds and the cipher.
+#![tactic(auto)]
+
 pub mod bytes;
 pub mod cipher;
 pub mod engine;

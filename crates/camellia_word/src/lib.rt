@@ -1,4 +1,6 @@
 // The word path: a half is two 32-bit words, each substitution is a table, and P is four rotations.
+#![tactic(auto)]
+
 pub mod half;
 mod sbox;
 

@@ -1,4 +1,6 @@
 // A save card over any kind of engine and any store.
+#![tactic(auto)]
+
 mod belongs;
 pub mod card;
 mod change;

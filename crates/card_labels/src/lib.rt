@@ -1,4 +1,6 @@
 // The labels that a card writes, each whole: of a new card, of a change that begins, and after a step of it.
+#![tactic(auto)]
+
 ghost use Rattle.std.specs.Prelude.{◌≡◌, ℕ, ◌*◌, ◌&&◌, length, ◌==◌};
 ghost use Rattle.sealing.specs.Pair.{paired};
 ghost use Rattle.label.specs.Told.{bits, told, fields_in};

@@ -1,4 +1,6 @@
 // A block cipher under one key: what every engine tells, and what it promises.
+#![tactic(auto)]
+
 ghost use Rattle.std.specs.Prelude.{◌≡◌, ℕ, Bool, true, false, List, map, length, replicate};
 ghost use Rattle.engine.specs.Kind.{EightLetters, Undoes, Blocks, load_answer};
 

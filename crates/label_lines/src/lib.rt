@@ -1,4 +1,6 @@
 // The lines of a label, taken apart and put together.
+#![tactic(auto)]
+
 pub mod cut;
 pub mod lines;
 pub mod write;

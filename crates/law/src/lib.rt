@@ -1,4 +1,6 @@
 // The law of a card over every list of calls, for every kind of engine and every store that keep their promises.
+#![tactic(auto)]
+
 ghost use Rattle.law.specs.Law.{RefusedExactly, LabelTells, ReadsBack, ChangeCounted, HostsAgree, HandedOver};
 ghost use Rattle.law.specs.Runs.{Of, Between, Every};
 

@@ -1,4 +1,6 @@
 // Lists of calls played on cards, and what they come to.
+#![tactic(auto)]
+
 ghost use Rattle.std.specs.Prelude.{◌≡◌};
 ghost use Rattle.law.specs.Kind.{Kind, Lawful};
 ghost use Rattle.law.specs.Store.{Store, Sized as SizedStore};

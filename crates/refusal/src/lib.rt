@@ -1,4 +1,6 @@
 // Why a call was refused: one enum for the whole project, and the three numbers that each case carries.
+#![tactic(auto)]
+
 ghost use Rattle.std.specs.Prelude.{◌≡◌};
 ghost use Rattle.refusal.specs.Code.{code, layer_number};
 

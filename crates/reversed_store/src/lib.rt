@@ -1,4 +1,6 @@
 // A store of another shape, for tests of generic code: its frames stand in reverse order.
+#![tactic(auto)]
+
 ghost use Rattle.std.specs.Prelude.{◌≡◌, ◌<◌, false, length};
 ghost use Rattle.store.specs.Frames.{frame_count};
 ghost use Rattle.reversed_store.specs.Backwards.{backwards, frames_back};

@@ -1,4 +1,6 @@
 // Where the frames of a card are kept: what every store tells, and what it promises.
+#![tactic(auto)]
+
 ghost use Rattle.std.specs.Prelude.{◌≡◌, ℕ, ◌<◌, ◌≤◌, Bool, false, List, [], length, slice_index_or, slice_set};
 ghost use Rattle.store.specs.Answers.{call_answer, left};
 ghost use Rattle.octets.specs.Octets.{Frame};

@@ -1,4 +1,6 @@
 // An engine for tests of generic code: it hands its block back, which is a lawful cipher, and no Camellia.
+#![tactic(auto)]
+
 ghost use Rattle.std.specs.Prelude.{◌||◌, codes, ◌==◌};
 ghost use Rattle.std.proofs.Common.{rules};
 

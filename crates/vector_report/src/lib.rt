@@ -1,4 +1,6 @@
 // Judges groups of test vectors: bytes in, lines out.
+#![tactic(auto)]
+
 mod judge;
 pub mod report;
 #[cfg(test)]

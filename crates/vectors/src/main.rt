@@ -1,4 +1,6 @@
 // Judges the groups of test vectors on standard input.
+#![tactic(auto)]
+
 use std::io::Read;
 use vector_report::report::report;
 
