@@ -3,8 +3,8 @@
 
 mod bytes;
 pub mod cipher;
+pub mod cipher_engine;
 mod eight;
-pub mod engine;
 mod keys;
 mod one;
 mod rounds;

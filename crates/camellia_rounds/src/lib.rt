@@ -3,7 +3,7 @@
 
 pub mod bytes;
 pub mod cipher;
-pub mod engine;
+pub mod cipher_engine;
 mod expand;
 pub mod half;
 pub mod parts;

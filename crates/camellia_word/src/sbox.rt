@@ -83,32 +83,32 @@ const S4: [u8; 256] = [
 ];
 
 fn s1(x: u8) -> u8
-    ensures* { do ⌜ result ≡ first (← (⟦S1⟧).entry) x ⌝ }
+    ensures { result ≡ first S1 x }
 {
     S1[x as usize]
 }
 
 fn s2(x: u8) -> u8
-    ensures* { do ⌜ result ≡ second (← (⟦S1⟧).entry) x ⌝ }
+    ensures { result ≡ second S1 x }
 {
     S2[x as usize]
 }
 
 fn s3(x: u8) -> u8
-    ensures* { do ⌜ result ≡ third (← (⟦S1⟧).entry) x ⌝ }
+    ensures { result ≡ third S1 x }
 {
     S3[x as usize]
 }
 
 fn s4(x: u8) -> u8
-    ensures* { do ⌜ result ≡ fourth (← (⟦S1⟧).entry) x ⌝ }
+    ensures { result ≡ fourth S1 x }
 {
     S4[x as usize]
 }
 
 // Bytes 1 to 4 of a half go through s1, s2, s3, s4.
 pub(crate) fn substitute_left(x: u32) -> u32
-    ensures* { do ⌜ result ≡ left_s (← (⟦S1⟧).entry) x ⌝ }
+    ensures { result ≡ left_s S1 x }
 {
     let [a, b, c, d] = x.to_be_bytes();
     u32::from_be_bytes([s1(a), s2(b), s3(c), s4(d)])
@@ -116,7 +116,7 @@ pub(crate) fn substitute_left(x: u32) -> u32
 
 // Bytes 5 to 8 go through s2, s3, s4, s1.
 pub(crate) fn substitute_right(x: u32) -> u32
-    ensures* { do ⌜ result ≡ right_s (← (⟦S1⟧).entry) x ⌝ }
+    ensures { result ≡ right_s S1 x }
 {
     let [a, b, c, d] = x.to_be_bytes();
     u32::from_be_bytes([s2(a), s3(b), s4(c), s1(d)])

@@ -1,7 +1,7 @@
 use Rattle.std.proofs.Common.{◌∙◌, ap₂}
 use Rattle.camellia.specs.Rounds.{st}
 use Rattle.camellia.specs.Cipher.{to_state}
-use Rattle.camellia_rounds.proofs.engine.split.Goals as goal
+use Rattle.camellia_rounds.proofs.cipher_engine.split.Goals as goal
 
 pub returns : goal.returns
 unfolding to_state
