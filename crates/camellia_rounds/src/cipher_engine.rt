@@ -39,7 +39,7 @@ fn schedule_of<H: Half>(key: &[u8]) -> Schedule
 }
 
 fn split<H: Half>(block: &[u8; 16]) -> Halves<H>
-    ensures { state_of value result ≡ to_state block.now }
+    ensures { state_of H.value result ≡ to_state block.now }
 {
     Halves {
         left: H::from_number(half_at(block, 0)),
@@ -48,7 +48,7 @@ fn split<H: Half>(block: &[u8; 16]) -> Halves<H>
 }
 
 fn join<H: Half>(s: Halves<H>) -> [u8; 16]
-    ensures { result ≡ to_bytes (state_of value s) }
+    ensures { result ≡ to_bytes (state_of H.value s) }
 {
     block(s.left.number(), s.right.number())
 }

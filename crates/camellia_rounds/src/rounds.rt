@@ -18,7 +18,7 @@ pub struct Halves<H> {
 
 impl<H: Half> Halves<H> {
     pub(crate) fn swapped(self) -> Self
-        ensures { state_of value result ≡ swapped_of (state_of value self) }
+        ensures { state_of H.value result ≡ swapped_of (state_of H.value self) }
     {
         Halves {
             left: self.right,
@@ -27,7 +27,7 @@ impl<H: Half> Halves<H> {
     }
 
     pub(crate) fn whitened(self, a: u64, b: u64) -> Self
-        ensures { state_of value result ≡ whitened_of a b (state_of value self) }
+        ensures { state_of H.value result ≡ whitened_of a b (state_of H.value self) }
     {
         Halves {
             left: self.left.xor(H::from_number(a)),
@@ -36,7 +36,7 @@ impl<H: Half> Halves<H> {
     }
 
     pub(crate) fn round(self, k: u64) -> Self
-        ensures { state_of value result ≡ step_of (Round k) (state_of value self) }
+        ensures { state_of H.value result ≡ step_of (Round k) (state_of H.value self) }
     {
         Halves {
             left: self.right.xor(self.left.f(H::from_number(k))),
@@ -45,7 +45,7 @@ impl<H: Half> Halves<H> {
     }
 
     fn fl(self, a: u64, b: u64) -> Self
-        ensures { state_of value result ≡ step_of (Fl a b) (state_of value self) }
+        ensures { state_of H.value result ≡ step_of (Fl a b) (state_of H.value self) }
     {
         Halves {
             left: self.left.fl(H::from_number(a)),
@@ -54,7 +54,7 @@ impl<H: Half> Halves<H> {
     }
 
     fn step(self, layer: Layer<u64>) -> Self
-        ensures { state_of value result ≡ step_of layer (state_of value self) }
+        ensures { state_of H.value result ≡ step_of layer (state_of H.value self) }
     {
         match layer {
             Layer::Round(k) => self.round(k),
@@ -63,7 +63,7 @@ impl<H: Half> Halves<H> {
     }
 
     fn step_back(self, layer: Layer<u64>) -> Self
-        ensures { state_of value result ≡ step_of (turned layer) (state_of value self) }
+        ensures { state_of H.value result ≡ step_of (turned layer) (state_of H.value self) }
     {
         match layer {
             Layer::Round(k) => self.round(k),
@@ -72,7 +72,7 @@ impl<H: Half> Halves<H> {
     }
 
     pub(crate) fn forward(self, layers: &[Layer<u64>]) -> Self
-        ensures { state_of value result ≡ run layers.now (state_of value self) }
+        ensures { state_of H.value result ≡ run layers.now (state_of H.value self) }
     {
         let mut s = self;
         for layer in layers {
@@ -82,7 +82,7 @@ impl<H: Half> Halves<H> {
     }
 
     pub(crate) fn backward(self, layers: &[Layer<u64>]) -> Self
-        ensures { state_of value result ≡ run (backward_of layers.now) (state_of value self) }
+        ensures { state_of H.value result ≡ run (backward_of layers.now) (state_of H.value self) }
     {
         let mut s = self;
         for i in (0..layers.len()).rev() {
@@ -92,14 +92,14 @@ impl<H: Half> Halves<H> {
     }
 
     pub(crate) fn encrypted(self, k: &Schedule) -> Self
-        ensures { state_of value result ≡ encrypt_of (schedule_of k.now) (state_of value self) }
+        ensures { state_of H.value result ≡ encrypt_of (schedule_of k.now) (state_of H.value self) }
     {
         let s = self.whitened(k.kw.kw1, k.kw.kw2).forward(k.layers());
         s.swapped().whitened(k.kw.kw3, k.kw.kw4)
     }
 
     pub(crate) fn decrypted(self, k: &Schedule) -> Self
-        ensures { state_of value result ≡ encrypt_of (reversed (schedule_of k.now)) (state_of value self) }
+        ensures { state_of H.value result ≡ encrypt_of (reversed (schedule_of k.now)) (state_of H.value self) }
     {
         let s = self.whitened(k.kw.kw3, k.kw.kw4).backward(k.layers());
         s.swapped().whitened(k.kw.kw1, k.kw.kw2)

@@ -24,9 +24,9 @@ pub fn paired(len: usize) -> bool
 impl<E: Engine> Pair<E> {
     // Both engines hold sixteen zero bytes.
     pub fn new() -> Self
-        ensures cipher { enciphers result.cipher ≡ E.Engine.cipher (replicate 16 0) }
-        ensures inverse { deciphers result.cipher ≡ E.Engine.inverse (replicate 16 0) }
-        ensures tweak { enciphers result.tweak ≡ E.Engine.cipher (replicate 16 0) }
+        ensures cipher { E.enciphers result.cipher ≡ E.Engine.cipher (replicate 16 0) }
+        ensures inverse { E.deciphers result.cipher ≡ E.Engine.inverse (replicate 16 0) }
+        ensures tweak { E.enciphers result.tweak ≡ E.Engine.cipher (replicate 16 0) }
     {
         Pair {
             cipher: E::new(),
@@ -37,9 +37,9 @@ impl<E: Engine> Pair<E> {
     pub fn load(&mut self, keys: &[u8]) -> Result<(), Refusal>
         ensures answer { result ≡ pair_answer (paired_of (length keys.now)) (E.Engine.takes (length keys.now / 2)) }
         ensures refused { (result ≢ Ok tt) → self.new ≡ self.old }
-        ensures cipher { result ≡ Ok tt → enciphers self.new.cipher ≡ E.Engine.cipher (data_key keys.now) }
-        ensures inverse { result ≡ Ok tt → deciphers self.new.cipher ≡ E.Engine.inverse (data_key keys.now) }
-        ensures tweak { result ≡ Ok tt → enciphers self.new.tweak ≡ E.Engine.cipher (tweak_key keys.now) }
+        ensures cipher { result ≡ Ok tt → E.enciphers self.new.cipher ≡ E.Engine.cipher (data_key keys.now) }
+        ensures inverse { result ≡ Ok tt → E.deciphers self.new.cipher ≡ E.Engine.inverse (data_key keys.now) }
+        ensures tweak { result ≡ Ok tt → E.enciphers self.new.tweak ≡ E.Engine.cipher (tweak_key keys.now) }
     {
         let half = keys.len() / 2;
         if !paired(keys.len()) {
@@ -55,19 +55,19 @@ impl<E: Engine> Pair<E> {
     }
 
     pub fn seal(&self, frame: u64, bytes: &mut [u8; 128])
-        ensures { bytes.new ≡ xts (enciphers self.now.cipher) (enciphers self.now.tweak) frame bytes.old }
+        ensures { bytes.new ≡ xts (E.enciphers self.now.cipher) (E.enciphers self.now.tweak) frame bytes.old }
     {
         seal_frame(&self.cipher, &self.tweak, frame, bytes);
     }
 
     pub fn open(&self, frame: u64, bytes: &mut [u8; 128])
-        ensures { bytes.new ≡ xts (deciphers self.now.cipher) (enciphers self.now.tweak) frame bytes.old }
+        ensures { bytes.new ≡ xts (E.deciphers self.now.cipher) (E.enciphers self.now.tweak) frame bytes.old }
     {
         open_frame(&self.cipher, &self.tweak, frame, bytes);
     }
 
     pub fn check_value(&self) -> [u8; 4]
-        ensures { result ≡ check_value (enciphers self.now.cipher) (enciphers self.now.tweak) }
+        ensures { result ≡ check_value (E.enciphers self.now.cipher) (E.enciphers self.now.tweak) }
     {
         let mut b = [0; 16];
         self.tweak.encipher(&mut b);

@@ -123,7 +123,7 @@ fn join(blocks: &[[u8; 16]; 8], frame: &mut [u8; 128])
 
 // The cipher goes over the blocks between two masks.
 pub(crate) fn seal_frame<E: Engine>(cipher: &E, tweak: &E, frame: u64, bytes: &mut [u8; 128])
-    ensures { bytes.new ≡ xts (enciphers cipher.now) (enciphers tweak.now) frame bytes.old }
+    ensures { bytes.new ≡ xts (E.enciphers cipher.now) (E.enciphers tweak.now) frame bytes.old }
 {
     let tweaks = first_tweaks(tweak, frame);
     let mut blocks = blocks(bytes);
@@ -134,7 +134,7 @@ pub(crate) fn seal_frame<E: Engine>(cipher: &E, tweak: &E, frame: u64, bytes: &m
 }
 
 pub(crate) fn open_frame<E: Engine>(cipher: &E, tweak: &E, frame: u64, bytes: &mut [u8; 128])
-    ensures { bytes.new ≡ xts (deciphers cipher.now) (enciphers tweak.now) frame bytes.old }
+    ensures { bytes.new ≡ xts (E.deciphers cipher.now) (E.enciphers tweak.now) frame bytes.old }
 {
     let tweaks = first_tweaks(tweak, frame);
     let mut blocks = blocks(bytes);
@@ -146,7 +146,7 @@ pub(crate) fn open_frame<E: Engine>(cipher: &E, tweak: &E, frame: u64, bytes: &m
 
 // The tweaks of a frame: the first is E of its unit number.
 fn first_tweaks<E: Engine>(tweak: &E, frame: u64) -> [[u8; 16]; 8]
-    ensures { result ≡ tweaks_of 8 (enciphers tweak.now (unit frame)) }
+    ensures { result ≡ tweaks_of 8 (E.enciphers tweak.now (unit frame)) }
 {
     let mut t = bytes(frame as u128);
     tweak.encipher(&mut t);

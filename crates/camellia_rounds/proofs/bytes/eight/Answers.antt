@@ -3,4 +3,4 @@ use Rattle.camellia.proofs.Blocks.{bytes-swapped, le8}
 use Rattle.camellia_rounds.proofs.bytes.eight.Goals as goal
 
 pub returns : goal.returns
-returns c = c.to-le-bytes.ensures ∙ ap le8 c.swap-bytes.ensures ∙ bytes-swapped c.args.x
+returns c = c.to_le_bytes.ensures ∙ ap le8 c.swap_bytes.ensures ∙ bytes-swapped c.args.x

@@ -7,15 +7,15 @@ pub returns-in-16 : goal.returns-in-16
 returns-in-16 g c =
     let key = c.args.key.now in
     let n : length key ≡ 16 = search rules in
-    c.expand-18.ensures ∙ ap (λ l. scheduled (material l 0) whitening18 layers18) c.halves-at.ensures
+    c.expand_18.ensures ∙ ap (λ l. scheduled (material l 0) whitening18 layers18) c.halves_at.ensures
     ∙ sym (schedule_16 key n)
 
 pub returns-in-24 : goal.returns-in-24
 returns-in-24 g c =
     let key = c.args.key.now in
     let n : length key ≡ 24 = search rules in
-    c.expand-24.ensures
-    ∙ ap₂ (λ l r. scheduled (material l r) whitening24 layers24) c.halves-at-in-24.ensures (c.joined.ensures ∙ ap with_complement c.half-at-last.ensures)
+    c.expand_24.ensures
+    ∙ ap₂ (λ l r. scheduled (material l r) whitening24 layers24) c.halves_at-in-24.ensures (c.joined.ensures ∙ ap with_complement c.half_at-last.ensures)
     ∙ sym (schedule_24 key n)
 
 pub returns-in-default : goal.returns-in-default

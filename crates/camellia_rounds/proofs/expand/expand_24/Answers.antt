@@ -4,4 +4,4 @@ use Rattle.camellia_rounds.proofs.expand.expand_24.Goals as goal
 
 pub returns : goal.returns
 returns g c =
-    c.expand.ensures ∙ (λ i. scheduled (c.material.ensures i) (c.whitening-24.ensures i) (c.layers-24.ensures i))
+    c.expand.ensures ∙ (λ i. scheduled (c.material.ensures i) (c.whitening_24.ensures i) (c.layers_24.ensures i))

@@ -3,4 +3,4 @@ use Rattle.sealing.proofs.xts.bytes.Goals as goal
 
 pub returns : goal.returns
 unfolding bytes16
-returns c = c.to-le-bytes.ensures
+returns c = c.to_le_bytes.ensures

@@ -4,4 +4,4 @@ use Rattle.sealing.proofs.xts.number.Goals as goal
 
 pub returns : goal.returns
 unfolding number16
-returns c = c.from-le-bytes.ensures ∙ omega arith
+returns c = c.from_le_bytes.ensures ∙ omega arith

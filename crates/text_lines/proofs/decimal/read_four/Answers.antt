@@ -17,5 +17,5 @@ returns-in-err-ones c = rw c.from-residual-in-err-ones.ensures (λ n h. c.in-err
 pub returns : goal.returns
 returns c =
     four-digits c.args.digits.now _ _ _ _ (search rules)
-    c.in-ok-thousands.ensures c.in-ok-hundreds.ensures
-    c.in-ok-tens.ensures c.in-ok-ones.ensures
+    c.in_ok-thousands.ensures c.in_ok-hundreds.ensures
+    c.in_ok-tens.ensures c.in-ok-ones.ensures

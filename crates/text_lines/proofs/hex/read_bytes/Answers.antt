@@ -18,7 +18,7 @@ returns-in-err-byte g c =
 
 pub loop-byte-preserved : goal.loop-byte-preserved
 loop-byte-preserved g c =
-    let p = progress_more c.loop-byte.invariant.0 _ c.loop-byte-test.true (omega (arith, ltb-false)) c.in-ok-byte.ensures in
+    let p = progress_more c.loop-byte.invariant.0 _ c.loop-byte-test.true (omega (arith, ltb-false)) c.in_ok-byte.ensures in
     (p, progress_all p)
 
 pub returns-else-is-empty : goal.returns-else-is-empty

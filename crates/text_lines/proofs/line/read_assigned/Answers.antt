@@ -27,9 +27,9 @@ returns-in-err-next c =
 pub returns : goal.returns
 unfolding assigned
 returns c =
-    let halves = c.in-ok-value.ensures.cases in
-    let whole = take-append-drop c.args.width c.in-ok-valued.valued.now in
+    let halves = c.in_ok-value.ensures.cases in
+    let whole = take-append-drop c.args.width c.in_ok-valued.valued.now in
     record {
       wide = halves.3;
-      reads = cc (c.in-ok-valued.ensures, halves.1, halves.2, c.in-ok-next.ensures);
+      reads = cc (c.in_ok-valued.ensures, halves.1, halves.2, c.in_ok-next.ensures);
     }

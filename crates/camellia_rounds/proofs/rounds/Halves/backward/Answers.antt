@@ -20,7 +20,7 @@ loop-i-preserved g c =
     let h : i - 1 < length ys = omega arith in
     let e : i - 1 + 1 ≡ i = omega arith in
     let f = c.loop-i.invariant in
-    c.step-back-s.ensures
+    c.step_back-s.ensures
     ∙ ap (step _) (f ∙ ap (λ k. run (backward (drop k ys)) s) (sym e))
     ∙ sym (run-back-more ys (i - 1) _ s h)
 

@@ -25,7 +25,7 @@ returns-then-is-worn c =
 pub returns-then-self-eq-ROOM : goal.returns-then-self-eq-ROOM
 returns-then-self-eq-ROOM c =
     let l = length-frames_in in_order (vec_items c.args.self.now.image.bytes) in
-    let is = sym c.if-is-worn.ensures in
+    let is = sym c.if-is_worn.ensures in
     let full = length-take-le c.args.self.now.used c.args.self.now.marks (omega arith) in
     record { answer = grind (arith, nat_tests); marks = refl; worn = λ k. refl; image = refl }
 
@@ -45,7 +45,7 @@ returns c =
     let n = c.args.n in
     let ms = take d.used d.marks in
     let l = length-frames_in in_order (vec_items d.image.bytes) in
-    let is = sym c.if-is-worn.ensures in
+    let is = sym c.if-is_worn.ensures in
     let room = length-take-le d.used d.marks (omega arith) in
     let more : take c.add-self.result c.add-self.new.marks ≡ marked ms n =
     ap₂ take c.add-self.ensures.used c.add-self.ensures.marks ∙ take_more_set d.marks d.used n (omega arith) ∙ sym (cond-false (among ms n) ms (ms ++ n ∷ []) is) in

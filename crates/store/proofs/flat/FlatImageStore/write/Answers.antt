@@ -10,7 +10,7 @@ use Rattle.store.proofs.flat.FlatImageStore.write.Goals as goal
 pub put-requires : goal.put-requires
 put-requires c =
     let s = vec_items c.args.self.now.bytes in
-    let p = passed in_order s (length c.args.buffer.now) c.args.n c.check.result c.check.ensures c.in-ok-check.was in
+    let p = passed in_order s (length c.args.buffer.now) c.args.n c.check.result c.check.ensures c.in_ok-check.was in
     let f = slot_fits (length s) c.args.n p.1 in
     (f.0, (omega arith, p.0))
 
@@ -18,7 +18,7 @@ put-requires c =
 image : (c : After-put) → vec_items (with_items c.args.self.now.bytes c.put.new.image) ≡ placed (vec_items c.args.self.now.bytes) c.args.n c.args.buffer.now
 image c =
     with_items_is c.args.self.now.bytes c.put.new.image (omega arith)
-    ∙ c.put.ensures ∙ ap (λ t. placed t c.args.n c.args.buffer.now) c.deref-mut.ensures.value
+    ∙ c.put.ensures ∙ ap (λ t. placed t c.args.n c.args.buffer.now) c.deref_mut.ensures.value
 
 pub invariant-of-self : goal.invariant-of-self
 invariant-of-self c =
@@ -31,11 +31,11 @@ returns c =
     let s = vec_items c.args.self.now.bytes in
     let n = c.args.n in
     let x = c.args.buffer.now in
-    let p = passed in_order s (length c.args.buffer.now) c.args.n c.check.result c.check.ensures c.in-ok-check.was in
+    let p = passed in_order s (length c.args.buffer.now) c.args.n c.check.result c.check.ensures c.in_ok-check.was in
     let bytes = image (goal.at.returns c).After-put in
     let frames = ap (frames_in in_order) bytes ∙ frames_in-placed in_order s (λ k lt. lt) x n p.1 p.0 (λ j lt e. e) in
     record {
-      answer = sym c.in-ok-check.was ∙ c.check.ensures;
+      answer = sym c.in_ok-check.was ∙ c.check.ensures;
       frames = frames;
       count = ap length frames ∙ length-set (frames_in in_order s) n x;
       bytes = bytes;
