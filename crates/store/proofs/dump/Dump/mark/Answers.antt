@@ -13,12 +13,12 @@ returns-then-n-count c =
     let l = length-frames_in in_order (vec_items c.args.self.now.image.bytes) in
     record { answer = grind (arith, nat_tests); marks = refl; worn = λ k. refl; image = refl }
 
-pub returns-then-is-worn : goal.returns-then-is-worn
-returns-then-is-worn c =
+pub returns-then-is_worn : goal.returns-then-is_worn
+returns-then-is_worn c =
     let l = length-frames_in in_order (vec_items c.args.self.now.image.bytes) in
     let ms = take c.args.self.now.used c.args.self.now.marks in
     let n = c.args.n in
-    let is = sym c.if-is-worn.ensures in
+    let is = sym c.if-is_worn.ensures in
     let same : ms ≡ marked ms n = sym (cond-true (among ms n) ms (ms ++ n ∷ []) is) in
     record { answer = grind (arith, nat_tests); marks = same; worn = λ k. ap (λ t. among t k) same ∙ among-marked ms n k; image = refl }
 
@@ -29,8 +29,8 @@ returns-then-self-eq-ROOM c =
     let full = length-take-le c.args.self.now.used c.args.self.now.marks (omega arith) in
     record { answer = grind (arith, nat_tests); marks = refl; worn = λ k. refl; image = refl }
 
-pub invariant-of-self : goal.invariant-of-self
-invariant-of-self c =
+pub invariant_of-self : goal.invariant_of-self
+invariant_of-self c =
     let d = c.args.self.now in
     let n = c.args.n in
     let N = frame_count (length (vec_items d.image.bytes)) in

@@ -5,8 +5,8 @@ use Rattle.store.specs.Slots.{length-frames_in}
 use Rattle.store.proofs.dump.DumpStore.write.Goals as goal
 
 -- the marks stay below N, since a write leaves N as it is
-pub invariant-of-self : goal.invariant-of-self
-invariant-of-self c =
+pub invariant_of-self : goal.invariant_of-self
+invariant_of-self c =
     let d = c.args.self.now in
     let s = vec_items c.write.new.self.bytes in
     let before = length-frames_in in_order (vec_items d.image.bytes) in

@@ -20,11 +20,11 @@ image c =
     with_items_is c.args.self.now.bytes c.put.new.image (omega arith)
     ∙ c.put.ensures ∙ ap (λ t. placed t c.args.n c.args.buffer.now) c.deref_mut.ensures.value
 
-pub invariant-of-self : goal.invariant-of-self
-invariant-of-self c =
+pub invariant_of-self : goal.invariant_of-self
+invariant_of-self c =
     let d = c.args.self.now in
     let new = bytes-placed (vec_items d.bytes) c.args.buffer.now c.args.n d.octets (λ i. omega (arith, c.type-inv.buffer i)) in
-    (subst Bytes (sym (image (goal.at.invariant-of-self c).After-put)) new, tt)
+    (subst Bytes (sym (image (goal.at.invariant_of-self c).After-put)) new, tt)
 
 pub returns : goal.returns
 returns c =
