@@ -1,5 +1,5 @@
 -- XTS looks at its cipher on blocks alone.
-use Rattle.std.proofs.Common.{◌≡◌, ℕ, zero, suc, ◌≤◌, List, [], ◌∷◌, map, length, drop, sym, refl, ap, ◌∙◌, subst, ap₂, arith}
+use Rattle.std.proofs.Common.{◌≡◌, ℕ, zero, suc, ◌≤◌, List, [], ◌∷◌, map, length, refl, ap, ◌∙◌, ap₂, arith}
 use Rattle.octets.specs.Octets.{Block}
 use Rattle.sealing.specs.Xts.{unit, added, doubled, tweaks, masked, blocks, joined, xts}
 use Rattle.sealing.proofs.Sixteen.{bytes_block, added_block}

@@ -1,9 +1,9 @@
 -- Sixteen bytes and the number that they are.
-use Rattle.std.proofs.Common.{◌≡◌, ℕ, zero, suc, ◌+◌, ◌*◌, ◌/◌, ◌%◌, ◌^◌, ◌<◌, List, [], ◌∷◌, ◌++◌, map, length, get_or, sym, refl, ap, ◌∙◌, ap₂, arith}
+use Rattle.std.proofs.Common.{◌≡◌, ℕ, zero, suc, ◌+◌, ◌*◌, ◌/◌, ◌%◌, ◌^◌, ◌<◌, List, [], ◌∷◌, map, get_or, sym, refl, ap, ◌∙◌, ap₂, arith}
 use lib.Bits.{bit_xor, xor_block, xor_lt, xor_assoc, xor_self, xor_zero_r}
 use Rattle.std.proofs.lemmas.Slice.Eq.{text_from_reads}
 use Rattle.octets.specs.Octets.{Bytes, Block}
-use Rattle.sealing.specs.Xts.{bytes16, number8, number16, added, doubled}
+use Rattle.sealing.specs.Xts.{bytes16, number8, number16, added}
 
 pub number-bytes : (x : ℕ) → x < 2 ^ 128 → number16 (bytes16 x) ≡ x
 unfolding number16 bytes16

@@ -1,4 +1,4 @@
-use Rattle.std.proofs.Common.{◌≡◌, ◌+◌, ◌*◌, ◌^◌, ap, ◌∙◌}
+use Rattle.std.proofs.Common.{◌+◌, ◌*◌, ◌^◌, ap, ◌∙◌}
 use lib.Bits.{bit_xor}
 use Rattle.sealing.specs.Xts.{bytes16}
 use Rattle.sealing.proofs.Sixteen.{added-halves}

@@ -1,4 +1,4 @@
-use Rattle.std.proofs.Common.{◌≡◌, length, take}
+use Rattle.std.proofs.Common.{◌≡◌, take}
 use Rattle.sealing.specs.Xts.{masked}
 use Rattle.sealing.proofs.xts.mask.Given as goal
 
