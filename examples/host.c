@@ -3,8 +3,8 @@
  * happened. Returns 0 only if the paths agree, opening gives the frame back and
  * every call leaves its pair zero.
  *
- *     rt staticlib hosts
- *     gcc -Iinclude examples/host.c target/staticlib/libhosts.a -o host
+ *     (cd crates/hosts && rt lib)
+ *     gcc -Iinclude examples/host.c crates/hosts/out/libhosts.a -o host
  */
 #include <stdio.h>
 #include <string.h>

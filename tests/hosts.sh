@@ -24,7 +24,7 @@ trap finish EXIT
 trap 'exit 1' HUP INT TERM
 
 cd "$(dirname "$0")/.." || exit 1
-archive=target/staticlib/libhosts.a
+archive=crates/hosts/out/libhosts.a
 build=target/hosts
 rm -rf "$build"
 mkdir -p "$build" || exit 1
@@ -45,9 +45,9 @@ check() {
 
 # an archive of an earlier run is not what is tested
 rm -f "$archive"
-if ! rt staticlib hosts >"$build/staticlib.log" 2>&1 || [ ! -f "$archive" ]; then
-    echo "FAILED: rt staticlib hosts"
-    tail -n 40 "$build/staticlib.log"
+if ! (cd crates/hosts && rt lib) >"$build/lib.log" 2>&1 || [ ! -f "$archive" ]; then
+    echo "FAILED: rt lib in crates/hosts"
+    tail -n 40 "$build/lib.log"
     exit 1
 fi
 

@@ -2,9 +2,21 @@
 # Runs the program vectors on stored inputs and compares what it writes; ends with its sums.
 set -u
 cd "$(dirname "$0")/.." || exit 1
-program=target/bin/vectors
+program=crates/vectors/out/vectors
 passed=0
 failed=0
+
+log=$(mktemp)
+trap 'rm -f "$log"' EXIT
+
+# a program of an earlier run is not what is tested
+rm -f "$program"
+if ! (cd crates/vectors && rt run </dev/null) >"$log" 2>&1 || [ ! -x "$program" ]; then
+    echo "FAILED: rt run in crates/vectors"
+    tail -n 40 "$log"
+    echo "0 passed, 1 failed"
+    exit 1
+fi
 
 # expect NAME OUTPUT: feeds standard input to the program and compares its output and its status
 expect() {
