@@ -24,24 +24,21 @@ fi
 
 # Our archives are built in a copy of the repository, with bench/calls.rt.in as one crate more: bench_calls, which has what hosts uses.
 repo=target/bench/repo
-calls=$repo/target/staticlib/libbench_calls.a
-archive=${1:-$repo/target/staticlib/libhosts.a}
+calls=$repo/crates/bench_calls/out/libbench_calls.a
+archive=${1:-$repo/crates/hosts/out/libhosts.a}
 if [ ! -f "$calls" ] || [ ! -f "$archive" ] ||
-    [ -n "$(find crates crates.txt bench/calls.rt.in -path '*/must-fail' -prune -o -newer "$repo/copied" -print -quit)" ]; then
-    rm -rf "$repo/crates" "$calls"
-    mkdir -p "$repo/target"
+    [ -n "$(find crates crates.txt bench/calls.rt.in \( -path '*/must-fail' -o -name out \) -prune -o -newer "$repo/copied" -print -quit)" ]; then
+    rm -rf "$repo"
+    mkdir -p "$repo"
     touch "$repo/copied"
-    # what is proved already need not be proved again: rt compares each stamp with the files
-    if [ ! -d "$repo/target/rlib" ] && [ -d target/stamp ] && [ -d target/rlib ]; then
-        cp -r target/stamp target/rlib "$repo/target/"
-    fi
+    # with what is proved already, which need not be proved again
     cp -r crates crates.txt "$repo/"
-    sed -n 's/^hosts:/bench_calls:/p' crates.txt >>"$repo/crates.txt"
+    sed -n 's/^hosts staticlib:/bench_calls staticlib:/p' crates.txt >>"$repo/crates.txt"
     mkdir -p "$repo/crates/bench_calls/src"
     cp bench/calls.rt.in "$repo/crates/bench_calls/src/lib.rt"
     for name in hosts bench_calls; do
         echo "building $name; its dependencies are proved first, which can take minutes"
-        (cd "$repo" && RT_JOBS=1 rt staticlib $name) >"target/bench/$name.log" 2>&1 || { tail -n 40 "target/bench/$name.log"; exit 1; }
+        (cd "$repo/crates/$name" && rt lib) >"target/bench/$name.log" 2>&1 || { tail -n 40 "target/bench/$name.log"; exit 1; }
     done
 fi
 # shellcheck disable=SC2046
