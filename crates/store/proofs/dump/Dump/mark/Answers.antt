@@ -37,7 +37,7 @@ invariant_of-self c =
     let l = length-frames_in in_order (vec_items d.image.bytes) in
     let one : take c.add-self.result c.add-self.new.marks ≡ take d.used d.marks ++ n ∷ [] =
     ap₂ take c.add-self.ensures.used c.add-self.ensures.marks ∙ take_more_set d.marks d.used n (omega arith) in
-    (omega (arith, c.add-self.ensures.used), (ap (below N) one ∙ below_push N (take d.used d.marks) n d.present (omega arith), tt))
+    record { room = omega (arith, c.add-self.ensures.used); present = ap (below N) one ∙ below_push N (take d.used d.marks) n d.present (omega arith) }
 
 pub returns : goal.returns
 returns c =

@@ -12,4 +12,4 @@ invariant_of-self c =
     let before = length-frames_in in_order (vec_items d.image.bytes) in
     let after = length-frames_in in_order s in
     let same : frame_count (length s) ≡ frame_count (length (vec_items d.image.bytes)) = omega (arith, c.write.ensures.count) in
-    (d.room, (ap (λ count. below count (take d.used d.marks)) same ∙ d.present, tt))
+    record { room = d.room; present = ap (λ count. below count (take d.used d.marks)) same ∙ d.present }

@@ -23,8 +23,8 @@ image c =
 pub invariant_of-self : goal.invariant_of-self
 invariant_of-self c =
     let d = c.args.self.now in
-    let new = bytes-placed (vec_items d.bytes) c.args.buffer.now c.args.n d.octets (λ i. omega (arith, c.type-inv.buffer i)) in
-    (subst Bytes (sym (image (goal.at.invariant_of-self c).After-put)) new, tt)
+    let new = bytes-placed (vec_items d.bytes) c.args.buffer.now c.args.n d.octets (λ i. omega (arith, c.type_inv.buffer i)) in
+    record { octets = subst Bytes (sym (image (goal.at.invariant_of-self c).After-put)) new }
 
 pub returns : goal.returns
 returns c =
