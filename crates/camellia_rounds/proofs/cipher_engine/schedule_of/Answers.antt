@@ -1,5 +1,5 @@
 use Rattle.std.proofs.Common.{◌≡◌, length, sym, ap, ◌∙◌, ap₂, rules}
-use Rattle.camellia.specs.Keys.{joined, with_complement, material, scheduled, whitening18, layers18, whitening24, layers24}
+use Rattle.camellia.specs.Keys.{with_complement, material, scheduled, whitening18, layers18, whitening24, layers24}
 use Rattle.camellia.proofs.Schedules.{schedule_16, schedule_24, schedule_32}
 use Rattle.camellia_rounds.proofs.cipher_engine.schedule_of.Goals as goal
 
