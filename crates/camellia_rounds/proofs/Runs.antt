@@ -1,5 +1,5 @@
 -- One layer more, from the front and from the back.
-use Rattle.std.proofs.Common.{◌≡◌, ℕ, ◌+◌, ◌<◌, List, [], ◌∷◌, length, get_or, drop, sym, ap, ◌∙◌}
+use Rattle.std.proofs.Common.{◌≡◌, ℕ, ◌+◌, ◌<◌, List, [], ◌∷◌, length, get_or, drop, ◌∙◌}
 use Rattle.std.proofs.lemmas.List.{at_drop_more}
 use Rattle.camellia.specs.Rounds.{State, step, run, turned, backward}
 use Rattle.camellia.specs.declared.plan.Layer.{Layer}

@@ -1,4 +1,4 @@
-use Rattle.std.proofs.Common.{◌≡◌, ap, ◌∙◌}
+use Rattle.std.proofs.Common.{ap, ◌∙◌}
 use Rattle.camellia.proofs.Blocks.{bytes-swapped, le8}
 use Rattle.camellia_rounds.proofs.bytes.eight.Goals as goal
 

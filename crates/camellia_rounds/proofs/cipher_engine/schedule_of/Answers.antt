@@ -1,5 +1,5 @@
 use Rattle.std.proofs.Common.{◌≡◌, length, sym, ap, ◌∙◌, ap₂, rules}
-use Rattle.camellia.specs.Keys.{joined, with_complement, material, scheduled, whitening18, layers18, whitening24, layers24}
+use Rattle.camellia.specs.Keys.{with_complement, material, scheduled, whitening18, layers18, whitening24, layers24}
 use Rattle.camellia.proofs.Schedules.{schedule_16, schedule_24, schedule_32}
 use Rattle.camellia_rounds.proofs.cipher_engine.schedule_of.Goals as goal
 
@@ -18,10 +18,10 @@ returns-in-24 g c =
     ∙ ap₂ (λ l r. scheduled (material l r) whitening24 layers24) c.halves_at-in-24.ensures (c.joined.ensures ∙ ap with_complement c.half_at-last.ensures)
     ∙ sym (schedule_24 key n)
 
-pub returns-in-default : goal.returns-in-default
-returns-in-default g c =
+pub returns-in_default : goal.returns-in_default
+returns-in_default g c =
     let key = c.args.key.now in
     let n : length key ≡ 32 = search rules in
-    c.expand-24-in-default.ensures
-    ∙ ap₂ (λ l r. scheduled (material l r) whitening24 layers24) c.halves-at-in-default.ensures c.halves-at-in-default-2.ensures
+    c.expand_24-in_default.ensures
+    ∙ ap₂ (λ l r. scheduled (material l r) whitening24 layers24) c.halves_at-in_default.ensures c.halves_at-in_default-2.ensures
     ∙ sym (schedule_32 key n)

@@ -5,4 +5,4 @@ use Rattle.camellia_rounds.proofs.cipher_engine.split.Goals as goal
 
 pub returns : goal.returns
 unfolding to_state
-returns g c = ap₂ st (c.from_number.ensures ∙ c.half_at.ensures) (c.from-number-2.ensures ∙ c.half-at-2.ensures)
+returns g c = ap₂ st (c.from_number.ensures ∙ c.half_at.ensures) (c.from_number-2.ensures ∙ c.half_at-2.ensures)

@@ -1,4 +1,4 @@
-use Rattle.std.proofs.Common.{◌≡◌, ◌≤◌, map, length, take}
+use Rattle.std.proofs.Common.{◌≡◌, map, length, take}
 use Rattle.camellia.specs.Keys.{layer_of}
 use Rattle.camellia_rounds.proofs.expand.expand.Given as goal
 

@@ -1,8 +1,7 @@
-use Rattle.std.proofs.Common.{◌≡◌, ℕ, ap, ◌∙◌, ap₂}
+use Rattle.std.proofs.Common.{◌≡◌, ap, ◌∙◌, ap₂}
 use Rattle.camellia.specs.Rounds.{State, st, run, step}
 use Rattle.camellia.specs.Keys.{joined, halves, mixed}
 use Rattle.camellia.specs.declared.plan.Layer.TheVariants.{Round}
-use Rattle.camellia_rounds.specs.Told.{state_of}
 use Rattle.camellia_rounds.proofs.expand.mixed.Goals as goal
 
 pub returns : goal.returns

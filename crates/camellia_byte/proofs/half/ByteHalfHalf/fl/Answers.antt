@@ -10,6 +10,6 @@ pub returns : goal.returns
 returns c =
     let x = c.parts.result in
     let k = c.parts-2.result in
-    c.of-parts.ensures ∙ ap whole c.fl.ensures
+    c.of_parts.ensures ∙ ap whole c.fl.ensures
     ∙ sym (FL_parts x.0 x.1 k.0 k.1 (search rules) (search rules) (search rules))
     ∙ ap₂ FL c.parts.ensures c.parts-2.ensures

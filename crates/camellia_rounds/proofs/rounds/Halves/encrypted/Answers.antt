@@ -1,5 +1,5 @@
 use Rattle.std.proofs.Common.{ap, ◌∙◌, ap₂}
-use Rattle.camellia.specs.Rounds.{State, run, swapped, whitened, backward}
+use Rattle.camellia.specs.Rounds.{State, run, swapped, whitened}
 use Rattle.camellia.specs.Cipher.{encrypt}
 use Rattle.camellia_rounds.proofs.rounds.Halves.encrypted.Goals as goal
 

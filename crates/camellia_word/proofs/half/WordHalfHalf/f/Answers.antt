@@ -14,7 +14,7 @@ returns c =
     let x = c.args.self in
     let k = c.args.key in
     ap whole c.spread-left.ensures
-    ∙ ap₂ (λ l r. whole (rotated l r)) c.substitute-left.ensures c.substitute-right.ensures
+    ∙ ap₂ (λ l r. whole (rotated l r)) c.substitute_left.ensures c.substitute_right.ensures
     ∙ PS_words (x.left ⊕ k.left) (x.right ⊕ k.right)
     (xor_lt 32 x.left k.left (search rules) (search rules)) (xor_lt 32 x.right k.right (search rules) (search rules))
     ∙ ap PS (sym (xor_block 32 x.left k.left x.right k.right (search rules) (search rules)))

@@ -7,5 +7,5 @@ pub returns : goal.returns
 returns c =
     let x = c.args.self in
     let k = c.args.key in
-    ap whole c.fl-inverse-left.ensures
+    ap whole c.fl_inverse-left.ensures
     ∙ sym (FLINV_parts x.left x.right k.left k.right (search rules) (search rules) (search rules))
