@@ -13,8 +13,8 @@ record Bitwise (f : ℕ → ℕ → ℕ → ℕ) : Type 0 where
 
 module _ (f g : ℕ → ℕ → ℕ → ℕ) (p : Bitwise f) (q : Bitwise g)
     (digit : (a b c : ℕ) → f (a % 2) (b % 2) (c % 2) ≡ g (a % 2) (b % 2) (c % 2)) where
-  agree-below : (n a b c : ℕ) → a ≤ n → b ≤ n → c ≤ n → f a b c ≡ g a b c
-  agree-below =
+  agree_below : (n a b c : ℕ) → a ≤ n → b ≤ n → c ≤ n → f a b c ≡ g a b c
+  agree_below =
       bin_ind (λ (n : ℕ). (a b c : ℕ) → a ≤ n → b ≤ n → c ≤ n → f a b c ≡ g a b c)
       (λ a b c ha hb hc.
       let ea : a ≡ a % 2 = omega arith in
@@ -27,7 +27,7 @@ module _ (f g : ℕ → ℕ → ℕ → ℕ) (p : Bitwise f) (q : Bitwise g)
       omega arith)
 
   agree : (a b c : ℕ) → f a b c ≡ g a b c
-  agree a b c = agree-below (a + b + c) a b c (omega arith) (omega arith) (omega arith)
+  agree a b c = agree_below (a + b + c) a b c (omega arith) (omega arith) (omega arith)
 
 -- a digit is 0 or 1
 digits : (P : ℕ → Type 0) → P 0 → P 1 → (n : ℕ) → P (n % 2)
@@ -48,27 +48,27 @@ digits3 P p0 p1 p2 p3 p4 p5 p6 p7 a b c =
     (digits (λ y. P 1 y (c % 2)) (digits (λ z. P 1 0 z) p4 p5 c) (digits (λ z. P 1 1 z) p6 p7 c) b)
     a
 
-and-half : (a b : ℕ) → bit_and a b / 2 ≡ bit_and (a / 2) (b / 2)
-and-half a b = and_shr a b 1
+and_half : (a b : ℕ) → bit_and a b / 2 ≡ bit_and (a / 2) (b / 2)
+and_half a b = and_shr a b 1
 
-or-half : (a b : ℕ) → bit_or a b / 2 ≡ bit_or (a / 2) (b / 2)
-or-half a b = or_shr a b 1
+or_half : (a b : ℕ) → bit_or a b / 2 ≡ bit_or (a / 2) (b / 2)
+or_half a b = or_shr a b 1
 
-xor-half : (a b : ℕ) → bit_xor a b / 2 ≡ bit_xor (a / 2) (b / 2)
-xor-half a b = xor_shr a b 1
+xor_half : (a b : ℕ) → bit_xor a b / 2 ≡ bit_xor (a / 2) (b / 2)
+xor_half a b = xor_shr a b 1
 
 and_low : (a b : ℕ) → bit_and a b % 2 ≡ bit_and (a % 2) (b % 2)
 and_low a b = and_mod a b 1
 
-or-low : (a b : ℕ) → bit_or a b % 2 ≡ bit_or (a % 2) (b % 2)
-or-low a b = or_mod a b 1
+or_low : (a b : ℕ) → bit_or a b % 2 ≡ bit_or (a % 2) (b % 2)
+or_low a b = or_mod a b 1
 
 xor_low : (a b : ℕ) → bit_xor a b % 2 ≡ bit_xor (a % 2) (b % 2)
 xor_low a b = xor_mod a b 1
 
-ruleset halves = (and-half, or-half, xor-half)
+ruleset halves = (and_half, or_half, xor_half)
 
-ruleset lows = (and_low, or-low, xor_low)
+ruleset lows = (and_low, or_low, xor_low)
 
 pub and_xor : (a b c : ℕ) → bit_and (a ⊕ b) c ≡ bit_and a c ⊕ bit_and b c
 and_xor =
@@ -90,14 +90,14 @@ and-not d b hd hb =
     and_comm d (2 ^ 32 - 1 - b) ∙ ap (λ t. bit_and t d) e ∙ and_xor b (2 ^ 32 - 1) d
     ∙ ap₂ ◌⊕◌ (and_comm b d) all ∙ xor_comm (bit_and d b) d
 
-rotl-sum : (u : ℕ) → u < 2 ^ 32 → rotl 32 1 u ≡ (u % 2 ^ 31) * 2 + u / 2 ^ 31
-rotl-sum u h =
+rotl_sum : (u : ℕ) → u < 2 ^ 32 → rotl 32 1 u ≡ (u % 2 ^ 31) * 2 + u / 2 ^ 31
+rotl_sum u h =
     let e : (u * 2) % 2 ^ 32 ≡ (u % 2 ^ 31) * 2 = omega arith in
     ap (λ t. bit_or t (u / 2 ^ 31)) e ∙ or_shifted (u % 2 ^ 31) 1 (u / 2 ^ 31) (omega arith)
 
 pub rotl-xor : (u v : ℕ) → u < 2 ^ 32 → v < 2 ^ 32 → rotl 32 1 (u ⊕ v) ≡ rotl 32 1 u ⊕ rotl 32 1 v
 rotl-xor u v hu hv =
-    rotl-sum (u ⊕ v) (xor_lt 32 u v hu hv)
+    rotl_sum (u ⊕ v) (xor_lt 32 u v hu hv)
     ∙ ap₂ (λ s t. s * 2 + t) (xor_mod u v 31) (xor_shr u v 31)
     ∙ sym (xor_block 1 (u % 2 ^ 31) (v % 2 ^ 31) (u / 2 ^ 31) (v / 2 ^ 31) (omega arith) (omega arith))
-    ∙ sym (ap₂ ◌⊕◌ (rotl-sum u hu) (rotl-sum v hv))
+    ∙ sym (ap₂ ◌⊕◌ (rotl_sum u hu) (rotl_sum v hv))

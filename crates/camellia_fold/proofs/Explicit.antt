@@ -64,13 +64,13 @@ folded24 w k ke =
       layers = six_with e1 d1 k 0 (fl_of ke 0 ∷ six_with e2 d2 k 6 (fl_of ke 2 ∷ six_with e3 d3 k 12 (fl_of ke 4 ∷ six_with e4 d4 k 18 [])));
     }
 
-pub fold-plain18 : (w : Whitening ℕ) (k ke : ℕ → ℕ) → fold (plain18 w k ke) ≡ folded18 w k ke
+pub fold_plain18 : (w : Whitening ℕ) (k ke : ℕ → ℕ) → fold (plain18 w k ke) ≡ folded18 w k ke
 unfolding fold folded folded_back last_offset backward
-fold-plain18 w k ke = refl
+fold_plain18 w k ke = refl
 
-pub fold-plain24 : (w : Whitening ℕ) (k ke : ℕ → ℕ) → fold (plain24 w k ke) ≡ folded24 w k ke
+pub fold_plain24 : (w : Whitening ℕ) (k ke : ℕ → ℕ) → fold (plain24 w k ke) ≡ folded24 w k ke
 unfolding fold folded folded_back last_offset backward
-fold-plain24 w k ke = refl
+fold_plain24 w k ke = refl
 
 -- ---- the keys of a schedule's layers, by their numbers
 abbrev pub round_keys : List (Layer ℕ) → List ℕ
@@ -95,18 +95,18 @@ of18 m = map (layer_of m) layers18
 abbrev pub of24 : Material → List (Layer ℕ)
 of24 m = map (layer_of m) layers24
 
-pub scheduled-plain18 : (m : Material)
+pub scheduled_plain18 : (m : Material)
     → scheduled m whitening18 layers18 ≡ plain18 (whitening_of m whitening18) (k_of (of18 m)) (ke_of (of18 m))
-scheduled-plain18 m = refl
+scheduled_plain18 m = refl
 
-pub scheduled-plain24 : (m : Material)
+pub scheduled_plain24 : (m : Material)
     → scheduled m whitening24 layers24 ≡ plain24 (whitening_of m whitening24) (k_of (of24 m)) (ke_of (of24 m))
-scheduled-plain24 m = refl
+scheduled_plain24 m = refl
 
 pub fold_18 : (m : Material)
     → fold (scheduled m whitening18 layers18) ≡ folded18 (whitening_of m whitening18) (k_of (of18 m)) (ke_of (of18 m))
-fold_18 m = fold-plain18 (whitening_of m whitening18) (k_of (of18 m)) (ke_of (of18 m))
+fold_18 m = fold_plain18 (whitening_of m whitening18) (k_of (of18 m)) (ke_of (of18 m))
 
 pub fold_24 : (m : Material)
     → fold (scheduled m whitening24 layers24) ≡ folded24 (whitening_of m whitening24) (k_of (of24 m)) (ke_of (of24 m))
-fold_24 m = fold-plain24 (whitening_of m whitening24) (k_of (of24 m)) (ke_of (of24 m))
+fold_24 m = fold_plain24 (whitening_of m whitening24) (k_of (of24 m)) (ke_of (of24 m))

@@ -90,8 +90,8 @@ fold_alike_schedule key =
     either true s t p q = p
     either false s t p q = q
 
-pub all-folded : Folded
-all-folded = record {
+pub all_folded : Folded
+all_folded = record {
   enciphers = fold_alike_schedule;
   deciphers = λ key. alike_reversed (fold (schedule key)) (schedule key) (fold_alike_schedule key);
 }

@@ -20,7 +20,7 @@ pub record Samples : Type 0 where
   pub carried : through_fl_inverse 1 0 ≡ 0x100000001
   pub masked : through_fl_inverse 1 1 ≡ 1
   pub rotated : through_fl_inverse 0x8000000000000000 0x8000000000000000 ≡ 0x8000000000000001
-  pub rotated-first : through_fl 0x8000000000000000 0x8000000000000000 ≡ 0x8000000100000001
+  pub rotated_first : through_fl 0x8000000000000000 0x8000000000000000 ≡ 0x8000000100000001
   pub none2 : rfc_folded.kw.kw2 ≡ 0
   pub none4 : rfc_folded.kw.kw4 ≡ 0
   pub enciphers : enciphered rfc_folded rfc_key ≡ rfc_cipher

@@ -5,7 +5,6 @@ use Rattle.camellia.specs.Rounds.{run, backward}
 use Rattle.camellia.specs.Keys.{key_r, mixed, schedule}
 use Rattle.camellia.specs.Cipher.{encrypt, to_state, to_bytes}
 use Rattle.camellia_fold.specs.Fold.{through_fl, through_fl_inverse, folded, last_offset, folded_back, fold}
-use Rattle.camellia_fold.specs.Samples.{Samples}
 use Rattle.camellia_fold.proofs.sampled.Goals as goal
 
 pub returns : goal.returns
@@ -14,7 +13,7 @@ returns c = record {
   carried = refl;
   masked = refl;
   rotated = refl;
-  rotated-first = refl;
+  rotated_first = refl;
   none2 = refl;
   none4 = refl;
   enciphers = refl;

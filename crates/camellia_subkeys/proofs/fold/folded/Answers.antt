@@ -5,4 +5,4 @@ use Rattle.camellia_subkeys.proofs.fold.folded.Goals as goal
 pub returns : goal.returns
 returns g c =
     c.weave.ensures
-    ∙ ap₂ (woven_keys c.args.kw.now c.args.g.now) c.offsets-up-up.ensures c.offsets-down-down.ensures
+    ∙ ap₂ (woven_keys c.args.kw.now c.args.g.now) c.offsets_up-up.ensures c.offsets_down-down.ensures

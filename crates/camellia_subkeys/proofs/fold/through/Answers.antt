@@ -17,5 +17,5 @@ returns c =
     let k : ℕ = c.args.k in
     let e : k / 2 ^ 32 ≡ k / 2 ^ 32 % 2 ^ 32 = omega arith in
     c.whole.ensures
-    ∙ ap (λ t. whole (offset_left c.split-kl.result.1 d.0 d.1, bit_xor t d.1)) c.rotate-left.ensures
+    ∙ ap (λ t. whole (offset_left c.split-kl.result.1 d.0 d.1, bit_xor t d.1)) c.rotate_left.ensures
     ∙ ap₂ on_parts c.split-dl.ensures (c.split-kl.ensures ∙ (λ i. (e i, k % 2 ^ 32)))

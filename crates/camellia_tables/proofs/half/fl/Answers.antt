@@ -9,4 +9,4 @@ unfolding FL
 returns c =
     let k : ℕ = c.args.k in
     let e : k / 2 ^ 32 ≡ k / 2 ^ 32 % 2 ^ 32 = omega arith in
-    c.fl-by-parts.ensures ∙ (λ i. whole (fl_of (parts_of c.args.x) (e i, k % 2 ^ 32)))
+    c.fl_by_parts.ensures ∙ (λ i. whole (fl_of (parts_of c.args.x) (e i, k % 2 ^ 32)))

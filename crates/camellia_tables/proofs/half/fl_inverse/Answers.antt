@@ -9,4 +9,4 @@ unfolding FLINV
 returns c =
     let k : ℕ = c.args.k in
     let e : k / 2 ^ 32 ≡ k / 2 ^ 32 % 2 ^ 32 = omega arith in
-    c.fl-inverse-by-parts.ensures ∙ (λ i. whole (fl_inverse_of (parts_of c.args.y) (e i, k % 2 ^ 32)))
+    c.fl_inverse_by_parts.ensures ∙ (λ i. whole (fl_inverse_of (parts_of c.args.y) (e i, k % 2 ^ 32)))

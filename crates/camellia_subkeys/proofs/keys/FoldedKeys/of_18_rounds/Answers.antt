@@ -12,10 +12,10 @@ use Rattle.camellia_subkeys.proofs.keys.FoldedKeys.of_18_rounds.Goals as goal
 pub returns : goal.returns
 returns c =
     ap schedule_of c.folded.ensures
-    ∙ (λ i. schedule_of (folded_of (c.whitening-at.ensures i) (record {
-      rounds = c.six-at.ensures i ∷ c.six-at-2.ensures i ∷ c.six-at-3.ensures i ∷ replicate 6 0 ∷ [];
-      fls = c.pair-at.ensures i ∷ c.pair-at-2.ensures i ∷ replicate 2 0 ∷ [];
+    ∙ (λ i. schedule_of (folded_of (c.whitening_at.ensures i) (record {
+      rounds = c.six_at.ensures i ∷ c.six_at-2.ensures i ∷ c.six_at-3.ensures i ∷ replicate 6 0 ∷ [];
+      fls = c.pair_at.ensures i ∷ c.pair_at-2.ensures i ∷ replicate 2 0 ∷ [];
       four = false;
     })))
-    ∙ ap (λ m. schedule_of (folded_of (whitening_at m (slots_of 18)) (groups18 m))) c.material-18-m.ensures
+    ∙ ap (λ m. schedule_of (folded_of (whitening_at m (slots_of 18)) (groups18 m))) c.material_18-m.ensures
     ∙ grouped18 (without_kb c.args.kl)

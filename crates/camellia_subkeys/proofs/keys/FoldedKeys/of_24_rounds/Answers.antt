@@ -11,10 +11,10 @@ use Rattle.camellia_subkeys.proofs.keys.FoldedKeys.of_24_rounds.Goals as goal
 pub returns : goal.returns
 returns c =
     ap schedule_of c.folded.ensures
-    ∙ (λ i. schedule_of (folded_of (c.whitening-at.ensures i) (record {
-      rounds = c.six-at.ensures i ∷ c.six-at-2.ensures i ∷ c.six-at-3.ensures i ∷ c.six-at-4.ensures i ∷ [];
-      fls = c.pair-at.ensures i ∷ c.pair-at-2.ensures i ∷ c.pair-at-3.ensures i ∷ [];
+    ∙ (λ i. schedule_of (folded_of (c.whitening_at.ensures i) (record {
+      rounds = c.six_at.ensures i ∷ c.six_at-2.ensures i ∷ c.six_at-3.ensures i ∷ c.six_at-4.ensures i ∷ [];
+      fls = c.pair_at.ensures i ∷ c.pair_at-2.ensures i ∷ c.pair_at-3.ensures i ∷ [];
       four = true;
     })))
-    ∙ ap (λ m. schedule_of (folded_of (whitening_at m (slots_of 24)) (groups24 m))) c.material-24-m.ensures
+    ∙ ap (λ m. schedule_of (folded_of (whitening_at m (slots_of 24)) (groups24 m))) c.material_24-m.ensures
     ∙ grouped24 (material c.args.kl c.args.kr)
