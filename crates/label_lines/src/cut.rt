@@ -167,7 +167,9 @@ fn is_filling(text: &[u8]) -> bool
 impl Lines {
     // The values of a frame that has a label's lines and nothing else.
     pub fn read(frame: &[u8]) -> Option<Lines>
-        ensures { MatchOption result ((v : Values) → LinesOf frame.now v → ⊥) (λ x. LinesOf frame.now (held x)) }
+        ensures { MatchOption result
+            ((v : Values) → LinesOf frame.now v → ⊥)
+            (λ x. LinesOf frame.now (held x)) }
     {
         let (cipher, rest) = cipher_line(frame)?;
         let (keybits, rest) = keybits_line(rest)?;

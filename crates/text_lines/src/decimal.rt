@@ -3,7 +3,9 @@ ghost use Rattle.std.specs.Prelude.{◌≡◌, ℕ, ◌+◌, ◌%◌, MatchOptio
 ghost use Rattle.text_lines.specs.Decimal.{numeral, NumeralOf, DecimalOf};
 
 fn read_digit(character: u8) -> Option<u16>
-    ensures { MatchOption result ((n : ℕ) → DecimalOf character n → ⊥) (λ n. DecimalOf character n) }
+    ensures { MatchOption result
+        ((n : ℕ) → DecimalOf character n → ⊥)
+        (λ n. DecimalOf character n) }
 {
     match character {
         b'0'..=b'9' => Some((character - b'0') as u16),
@@ -13,7 +15,9 @@ fn read_digit(character: u8) -> Option<u16>
 
 // The number that four digits write.
 pub fn read_four(digits: &[u8]) -> Option<u16>
-    ensures { MatchOption result ((n : ℕ) → NumeralOf digits.now 4 n → ⊥) (λ n. NumeralOf digits.now 4 n) }
+    ensures { MatchOption result
+        ((n : ℕ) → NumeralOf digits.now 4 n → ⊥)
+        (λ n. NumeralOf digits.now 4 n) }
 {
     let [a, b, c, d] = digits else {
         return None;

@@ -15,7 +15,9 @@ fn read_digit(character: u8) -> Option<u8>
 }
 
 fn read_pair(high: u8, low: u8) -> Option<u8>
-    ensures { MatchOption result ((byte : ℕ) → PairOf high low byte → ⊥) (λ byte. PairOf high low byte) }
+    ensures { MatchOption result
+        ((byte : ℕ) → PairOf high low byte → ⊥)
+        (λ byte. PairOf high low byte) }
 {
     Some(read_digit(high)? * 16 + read_digit(low)?)
 }

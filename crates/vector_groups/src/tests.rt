@@ -93,7 +93,7 @@ fn published_group_with_a_128_bit_key_loads(rt: HostRuntime) {
     let plain = *PLAIN;
     let cipher = *b"\x67\x67\x31\x38\x54\x96\x69\x73\x08\x57\x06\x56\x48\xea\xbe\x43";
     let group = Group { key, plain, cipher };
-    assert_eq!(rt; parse(text), Some((group, b"next")));
+    assert_eq!(rt; parse(text), Some((group, b"next".as_slice())));
 }
 
 #[test]
@@ -106,7 +106,7 @@ fn published_group_with_a_192_bit_key_loads(rt: HostRuntime) {
     let plain = *PLAIN;
     let cipher = *b"\xb4\x99\x34\x01\xb3\xe9\x96\xf8\x4e\xe5\xce\xe7\xd7\x9b\x09\xb9";
     let group = Group { key, plain, cipher };
-    assert_eq!(rt; parse(text), Some((group, b"next")));
+    assert_eq!(rt; parse(text), Some((group, b"next".as_slice())));
 }
 
 #[test]
@@ -119,7 +119,7 @@ fn published_group_with_a_256_bit_key_loads(rt: HostRuntime) {
     let plain = *PLAIN;
     let cipher = *b"\x9a\xcc\x23\x7d\xff\x16\xd7\x6c\x20\xef\x7c\x91\x9e\x3a\x75\x09";
     let group = Group { key, plain, cipher };
-    assert_eq!(rt; parse(text), Some((group, b"next")));
+    assert_eq!(rt; parse(text), Some((group, b"next".as_slice())));
 }
 
 #[test]

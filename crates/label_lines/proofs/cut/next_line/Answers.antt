@@ -5,5 +5,5 @@ use Rattle.label_lines.proofs.cut.next_line.Goals as goal
 pub returns-in-110 : goal.returns-in-110
 returns-in-110 c = line_found (codes "next") _ c.args.text.now 8 refl (omega (arith, ltb-false)) (search rules)
 
-pub returns-in-default : goal.returns-in-default
-returns-in-default c = λ value rest h. let front = line-front (codes "next") 8 h in search rules
+pub returns-in_default : goal.returns-in_default
+returns-in_default c = λ value rest h. let front = line-front (codes "next") 8 h in search rules
