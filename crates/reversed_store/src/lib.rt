@@ -1,11 +1,11 @@
 // A store of another shape, for tests of generic code: its frames stand in reverse order.
 #![tactic(auto)]
 
-ghost use Rattle.std.specs.Prelude.{◌≡◌, ◌<◌, false, length};
+ghost use Rattle.std.specs.Prelude.{◌≡◌, ◌<◌, false, length, refl};
 ghost use Rattle.store.specs.Frames.{frame_count};
 ghost use Rattle.reversed_store.specs.Backwards.{backwards, frames_back};
 ghost use Rattle.store.specs.Slots;
-ghost use Rattle.std.proofs.Common.{arith, rules};
+ghost use Rattle.std.proofs.Common.{arith};
 
 use refusal::Refusal;
 use store::Store;
@@ -44,11 +44,16 @@ impl Store for ReversedImage {
 
     ghost worn = { λ s n. false };
 
-    ghost few = { λ s. Slots.few (backwards (frame_count (length s.image.bytes.items))) s.image.bytes.items };
+    ghost few = { λ s.
+        let bytes = s.image.bytes.items in
+        Slots.few (backwards (frame_count (length bytes))) bytes };
 
-    ghost framed = { λ s n h. Slots.framed (backwards (frame_count (length s.image.bytes.items))) s.image.bytes.items (λ k lt. omega arith) s.image.octets n h };
+    ghost framed = { λ s n h.
+        let bytes = s.image.bytes.items in
+        let back = backwards (frame_count (length bytes)) in
+        Slots.framed back bytes (λ k lt. omega arith) s.image.octets n h };
 
-    ghost present = { Prim.search rules };
+    ghost present = { λ s n h. refl };
 
     fn count(&self) -> u64 {
         self.image.count()

@@ -9,7 +9,7 @@ use Rattle.reversed_store.proofs.ReversedImageStore.write.Goals as goal
 pub slot-slot-requires : goal.slot-slot-requires
 slot-slot-requires c =
     let s = vec_items c.args.self.now.image.bytes in
-    (passed (backwards (frame_count (length s))) s (length c.args.buffer.now) c.args.n c.check.result c.check.ensures c.in-ok-check.was).1
+    (passed (backwards (frame_count (length s))) s (length c.args.buffer.now) c.args.n c.check.result c.check.ensures c.in_ok-check.was).1
 
 pub returns : goal.returns
 returns c =
@@ -18,7 +18,7 @@ returns c =
     let x = c.args.buffer.now in
     let k = c.slot-slot.result in
     let slot = backwards (frame_count (length s)) in
-    let p = passed slot s (length x) n c.check.result c.check.ensures c.in-ok-check.was in
+    let p = passed slot s (length x) n c.check.result c.check.ensures c.in_ok-check.was in
     let lt : k < frame_count (length s) = omega (arith, c.slot-slot.ensures) in
     let f = slot_fits (length s) (slot n) (omega arith) in
     let done = c.write.ensures.answer ∙ accepted in_order s (length x) k p.0 lt in
