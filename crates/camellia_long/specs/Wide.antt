@@ -1,12 +1,12 @@
 -- Several blocks at once: the left halves in one list, the right halves in another.
-use Rattle.std.specs.Prelude.{◌≡◌, ℕ, ◌<◌, List, [], length, get_or, slice_index, slice_index_or}
+use Rattle.std.specs.Prelude.{◌≡◌, ℕ, ◌<◌, List, [], length, slice_index, slice_index_or}
 use Rattle.camellia.specs.Numbers.{◌⊕◌}
 use Rattle.camellia.specs.Rounds.{State, st}
 use Rattle.camellia.specs.Cipher.{to_state, to_bytes}
 
 pub record Whitened (n k : ℕ) (a a' : List ℕ) : Type 0 where
   pub long : length a' ≡ n
-  pub at : (i : ℕ) → i < n → slice_index a' i ≡ get_or a i 0 ⊕ k
+  pub at : (i : ℕ) → i < n → slice_index a' i ≡ slice_index a i ⊕ k
 
 -- each of n blocks goes through f
 pub record Each (n : ℕ) (f : State → State) (a b a' b' : List ℕ) : Type 0 where

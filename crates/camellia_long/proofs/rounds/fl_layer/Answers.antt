@@ -1,4 +1,4 @@
-use Rattle.std.proofs.Common.{◌≡◌, ℕ, ◌<◌, ap₂, arith}
+use Rattle.std.proofs.Common.{ap₂, arith}
 use Rattle.camellia.specs.Rounds.{st, run}
 use Rattle.camellia_long.proofs.rounds.fl_layer.Goals as goal
 

@@ -1,4 +1,4 @@
-use Rattle.std.proofs.Common.{◌≡◌, ℕ, ◌<◌, get_or, ap, ◌∙◌, ap₂, arith}
+use Rattle.std.proofs.Common.{get_or, ap, ◌∙◌, ap₂, arith}
 use Rattle.camellia.specs.Numbers.{◌⊕◌}
 use Rattle.camellia.specs.Functions.{F}
 use Rattle.camellia.specs.Rounds.{st, run}
