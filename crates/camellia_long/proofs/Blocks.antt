@@ -31,8 +31,8 @@ whole p q l r l0 l1 r1 r2 ys start middle end =
 module _ {n : ℕ} {a b a1 b1 a2 b2 : List ℕ} where
   pub after : (xs ys : List (Layer ℕ)) → Each n (run xs) a b a1 b1 → Each n (run ys) a1 b1 a2 b2 → Each n (run (xs ++ ys)) a b a2 b2
   after xs ys p q = record {
-    left-long = q.left-long;
-    right-long = q.right-long;
+    left_long = q.left_long;
+    right_long = q.right_long;
     at = λ i h. q.at i h ∙ ap (run ys) (p.at i h) ∙ sym (run-++ xs ys _);
   }
 
@@ -55,7 +55,7 @@ module _ {n : ℕ} {a a1 a2 b b2 b3 : List ℕ} where
   pub around : (p q : ℕ) (ys : List (Layer ℕ))
       → Whitened n p a a1 → Each n (run ys) a1 b a2 b2 → Whitened n q b2 b3 → Each n (encrypt (keyed p q ys)) a b b3 a2
   around p q ys start middle end = record {
-    left-long = end.long;
-    right-long = middle.left-long;
+    left_long = end.long;
+    right_long = middle.left_long;
     at = λ i h. whole p q _ _ _ _ _ _ ys (start.at i h) (middle.at i h) (end.at i h);
   }

@@ -1,5 +1,5 @@
 -- P is the sum of its eight columns, each multiplied by one byte.
-use Rattle.std.proofs.Common.{◌≡◌, ℕ, ◌+◌, ◌*◌, ◌<◌, ◌∙◌, ap₂, arith, lit<}
+use Rattle.std.proofs.Common.{◌≡◌, ℕ, ◌*◌, ◌<◌, ◌∙◌, ap₂, arith, lit<}
 use lib.Bits.{bit_xor, xor_lt, xor_zero_r}
 use Rattle.camellia.specs.Numbers.{join8, ◌⊕◌}
 use Rattle.camellia.specs.Functions.{P}

@@ -5,4 +5,4 @@ use Rattle.camellia_long.proofs.bytes.split.Goals as goal
 
 pub returns : goal.returns
 unfolding to_state
-returns c = ap₂ st c.half-at.ensures c.half-at-2.ensures
+returns c = ap₂ st c.half_at.ensures c.half_at-2.ensures

@@ -5,4 +5,4 @@ use Rattle.camellia_long.proofs.Frames.{each_block}
 use Rattle.camellia_long.proofs.eight.decrypt_eight.Goals as goal
 
 pub returns : goal.returns
-returns c = each_block (encrypt (reversed (schedule_of c.args.k.now))) c.told-blocks c.split-eight.ensures c.decrypt.ensures c.join-eight.ensures
+returns c = each_block (encrypt (reversed (schedule_of c.args.k.now))) c.told-blocks c.split_eight.ensures c.decrypt.ensures c.join_eight.ensures

@@ -1,4 +1,4 @@
-use Rattle.std.proofs.Common.{◌≡◌, ℕ, ◌<◌, ◌≢◌, [], length, get_or, ◌∙◌, arith, length-set, get_or-set_other, get_or-set_same, below_more}
+use Rattle.std.proofs.Common.{◌≢◌, [], ◌∙◌, arith, length-set, get_or-set_other, get_or-set_same, below_more}
 use Rattle.camellia_long.proofs.eight.join_eight.Goals as goal
 
 pub loop-i-preserved : goal.loop-i-preserved

@@ -1,4 +1,4 @@
-use Rattle.std.proofs.Common.{◌≡◌, ℕ, ◌<◌, ◌≢◌, length, get_or, ◌∙◌, ap₂, arith, length-set, get_or-set_other, get_or-set_same, below_more}
+use Rattle.std.proofs.Common.{◌≢◌, ◌∙◌, ap₂, arith, length-set, get_or-set_other, get_or-set_same, below_more}
 use Rattle.camellia.specs.Rounds.{st}
 use Rattle.camellia_long.proofs.eight.split_eight.Goals as goal
 

@@ -8,23 +8,23 @@ pub returns-in-16 : goal.returns-in-16
 returns-in-16 c =
     let key = c.args.key.now in
     let n : length key ≡ 16 = search rules in
-    c.of-18-rounds.ensures
-    ∙ ap fold (ap (λ l. scheduled (material l 0) whitening18 layers18) c.halves-at.ensures ∙ sym (schedule_16 key n))
+    c.of_18_rounds.ensures
+    ∙ ap fold (ap (λ l. scheduled (material l 0) whitening18 layers18) c.halves_at.ensures ∙ sym (schedule_16 key n))
 
 pub returns-in-24 : goal.returns-in-24
 returns-in-24 c =
     let key = c.args.key.now in
     let n : length key ≡ 24 = search rules in
-    c.of-24-rounds.ensures
+    c.of_24_rounds.ensures
     ∙ ap fold
-    (ap₂ (λ l r. scheduled (material l r) whitening24 layers24) c.halves-at-in-24.ensures (c.joined.ensures ∙ ap with_complement c.half-at-last.ensures)
+    (ap₂ (λ l r. scheduled (material l r) whitening24 layers24) c.halves_at-in-24.ensures (c.joined.ensures ∙ ap with_complement c.half_at-last.ensures)
     ∙ sym (schedule_24 key n))
 
-pub returns-in-default : goal.returns-in-default
-returns-in-default c =
+pub returns-in_default : goal.returns-in_default
+returns-in_default c =
     let key = c.args.key.now in
     let n : length key ≡ 32 = search rules in
-    c.of-24-rounds-in-default.ensures
+    c.of_24_rounds-in_default.ensures
     ∙ ap fold
-    (ap₂ (λ l r. scheduled (material l r) whitening24 layers24) c.halves-at-in-default.ensures c.halves-at-in-default-2.ensures
+    (ap₂ (λ l r. scheduled (material l r) whitening24 layers24) c.halves_at-in_default.ensures c.halves_at-in_default-2.ensures
     ∙ sym (schedule_32 key n))

@@ -1,4 +1,4 @@
-use Rattle.std.proofs.Common.{◌≡◌, replicate, refl}
+use Rattle.std.proofs.Common.{replicate, refl}
 use Rattle.camellia.specs.Sbox.{s1, s1table}
 use Rattle.camellia.specs.Functions.{P, PS, F}
 use Rattle.camellia.specs.Rounds.{run, backward}

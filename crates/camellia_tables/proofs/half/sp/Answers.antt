@@ -2,7 +2,7 @@ use Rattle.std.proofs.Common.{ℕ, ◌%◌, List, [], map, get_or, ap, ◌∙◌
 use lib.Bits.{and_mask}
 use Rattle.std.specs.List.{range_with_len}
 use Rattle.std.proofs.lemmas.List.FromFn.{get_or-map-range_with_len}
-use Rattle.camellia_tables.specs.Columns.{spread, tables}
+use Rattle.camellia_tables.specs.Columns.{spread}
 use Rattle.camellia_tables.proofs.half.sp.Goals as goal
 
 pub returns : goal.returns
