@@ -36,7 +36,8 @@ pub(crate) fn call<E: Engine + Drop>(way: Way, pair: &mut [u8], frame: u64, byte
 }
 
 fn go<E: Engine>(way: Way, keys: &Pair<E>, frame: u64, bytes: &mut [u8; 128])
-    ensures { bytes.new ≡ xts (way_of way (enciphers keys.now.cipher) (deciphers keys.now.cipher)) (enciphers keys.now.tweak) frame bytes.old }
+    ensures { bytes.new
+        ≡ xts (way_of way (E.enciphers keys.now.cipher) (E.deciphers keys.now.cipher)) (E.enciphers keys.now.tweak) frame bytes.old }
 {
     match way {
         Way::Seal => keys.seal(frame, bytes),

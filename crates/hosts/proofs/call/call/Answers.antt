@@ -4,13 +4,13 @@ use Rattle.hosts.specs.Calls.{returned, left, framed, accepted, under}
 use Rattle.hosts.proofs.Answers.{refused}
 use Rattle.hosts.proofs.call.call.Goals as goal
 
-pub returns-in-default : goal.returns-in-default
-returns-in-default g c =
+pub returns-in_default : goal.returns-in_default
+returns-in_default g c =
     let keys = c.args.pair.now in
     let bytes = c.args.bytes.now in
     let f : Bool = framed bytes in
     let no : false ≡ accepted g.E.Engine.takes (length keys) =
-    sym (refused (paired (length keys)) (g.E.Engine.takes (length keys / 2)) c.in-default.field-0 c.in-default.ensures.answer) in
+    sym (refused (paired (length keys)) (g.E.Engine.takes (length keys / 2)) c.in_default.field-0 c.in_default.ensures.answer) in
     record {
       answer = ap (λ b. returned b f) no;
       zeroed = search rules;
