@@ -19,7 +19,9 @@ impl KeyBits {
     }
 
     pub(crate) fn read(digits: &[u8]) -> Option<KeyBits>
-        ensures { MatchOption result ((k : KeyBits) → digits.now ≢ numeral 3 (bits k)) (λ k. digits.now ≡ numeral 3 (bits k)) }
+        ensures { MatchOption result
+            ((k : KeyBits) → digits.now ≢ numeral 3 (bits k))
+            (λ k. digits.now ≡ numeral 3 (bits k)) }
     {
         match digits {
             b"128" => Some(KeyBits::K128),

@@ -6,7 +6,9 @@ ghost use Rattle.label.specs.Values.{NextOf};
 use text_lines::hex;
 
 pub(crate) fn read_next(digits: &[u8]) -> Option<Option<[u8; 4]>>
-    ensures { MatchOption result ((next : Option (List ℕ)) → NextOf digits.now next → ⊥) (λ next. NextOf digits.now next) }
+    ensures { MatchOption result
+        ((next : Option (List ℕ)) → NextOf digits.now next → ⊥)
+        (λ next. NextOf digits.now next) }
 {
     if digits == b"--------".as_slice() {
         return Some(None);

@@ -2,9 +2,9 @@ use Rattle.std.proofs.Common.{sym, arith, rules}
 use Rattle.label.proofs.Kept.{lettered_decides, not-lettered}
 use Rattle.label.proofs.new.is_lettered.Goals as goal
 
-pub returns-then-not-is-ascii-lowercase : goal.returns-then-not-is-ascii-lowercase
-returns-then-not-is-ascii-lowercase c =
-    not-lettered c.args.name.now c.loop-letter.letter-index c.loop-letter-test.true c.if-not-is-ascii-lowercase.ensures.value
+pub returns-then-not-is_ascii_lowercase : goal.returns-then-not-is_ascii_lowercase
+returns-then-not-is_ascii_lowercase c =
+    not-lettered c.args.name.now c.loop-letter.letter-index c.loop-letter-test.true c.if-not-is_ascii_lowercase.ensures.value
 
 pub returns : goal.returns
 returns c =
