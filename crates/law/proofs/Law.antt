@@ -57,5 +57,5 @@ every M M' L L' s s' z z' cs ds gv gv' =
       first = course M L (size s) z.few (begun M s) cs gv (begins M s);
       second = course M' L' (size s') z'.few (begun M' s') ds gv' (begins M' s');
       hosts_agree = λ S sm. agrees M M' L S (off M) (off M') s s' (off_like M M' L S) (same_store s s' z z' sm) cs ds gv;
-      handed-over = λ S before rest e st sm. handed M M' L S s' z' ds (size s) z.few (begun M s) cs gv (begins M s) z before rest e st sm;
+      handed_over = λ S before rest e st sm. handed M M' L S s' z' ds (size s) z.few (begun M s) cs gv (begins M s) z before rest e st sm;
     }

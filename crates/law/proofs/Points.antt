@@ -21,5 +21,5 @@ point P f M L s z cs gv =
 pub hosts_agree : Between HostsAgree
 hosts_agree M M' L L' s s' z z' cs ds gv gv' = (every M M' L L' s s' z z' cs ds gv gv').hosts_agree
 
-pub handed-over : Between HandedOver
-handed-over M M' L L' s s' z z' cs ds gv gv' = (every M M' L L' s s' z z' cs ds gv gv').handed-over
+pub handed_over : Between HandedOver
+handed_over M M' L L' s s' z z' cs ds gv gv' = (every M M' L L' s s' z z' cs ds gv gv').handed_over

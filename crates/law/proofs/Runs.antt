@@ -326,8 +326,8 @@ module _ (M : Kind) (L : Lawful M) (N : ℕ) (small : N ≤ 1024) where
       let h = m.history in
       (i.claim cl).1 ∙ ap (λ b. card_of M N b (in_change N h) (pair N h) (new_pair h) (steps h)) on
 
-  reads-back-at : (m : Moment) (c : Call) → Given c → Sits M N m → ReadsBack M N m.history m.store (event_of c (act M m.card m.store c))
-  reads-back-at m c gv i =
+  reads_back_at : (m : Moment) (c : Call) → Given c → Sits M N m → ReadsBack M N m.history m.store (event_of c (act M m.card m.store c))
+  reads_back_at m c gv i =
       let j = sits_after m c gv i in
       let m' = after M m c in
       let h = m'.history in
@@ -368,7 +368,7 @@ module _ (M : Kind) (L : Lawful M) (N : ℕ) (small : N ≤ 1024) where
           answers = λ e. subst (λ z. Told z m.store c (decide r m.card m.store (perform M m.card m.store c)).answer) i.told
               (told-next r m.card m.store c i.long refl i.carried e);
         };
-        reads-back = reads-back-at m c gv i;
+        reads_back = reads_back_at m c gv i;
         change_counted = record {
           state = λ cl. sym i.told ∙ ap state_of (i.claim cl).1 ∙ state_of_lem (is_on m.history) (in_change N m.history) _ _ _;
           counted = λ cl on.

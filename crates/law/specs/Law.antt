@@ -122,7 +122,7 @@ Each P h s (e ∷ es) = P h s e × Each P (e ∷ h) e.store es
 pub record Fair (M : Kind) (N : ℕ) (h : History) (s : Store) (e : Event) : Type 0 where
   pub refused_exactly : RefusedExactly M h s e
   pub label_tells : LabelTells M N h s e
-  pub reads-back : ReadsBack M N h s e
+  pub reads_back : ReadsBack M N h s e
   pub change_counted : ChangeCounted M N h s e
 
 -- 5. Hosts agree: as long as the calls are the same, so are the answers and the frames.
@@ -152,4 +152,4 @@ pub record Law (M M' : Kind) (s s' : Store) (es fs : List Event) : Type 0 where
   pub first : Each (Fair M (size s)) [] s es
   pub second : Each (Fair M' (size s')) [] s' fs
   pub hosts_agree : HostsAgree M M' s s' es fs
-  pub handed-over : HandedOver M M' s s' es fs
+  pub handed_over : HandedOver M M' s s' es fs

@@ -27,6 +27,6 @@ worked = record {
   second_in_force = refl;
   up_to_the_mark = refl;
   behind_the_mark = refl;
-  handed-over = refl;
+  handed_over = refl;
   unclaimed = λ c. c.0;
 }

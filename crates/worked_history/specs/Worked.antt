@@ -45,5 +45,5 @@ pub record Worked : Type 0 where
   pub up_to_the_mark : pair_at 16 (past blank both) 8 ≡ new
   pub behind_the_mark : pair_at 16 (past blank both) 9 ≡ old
   -- a new card on the store left answers alike; its own list has no making, so nothing is claimed of it alone
-  pub handed-over : answers left abroad ≡ answers_abroad
+  pub handed_over : answers left abroad ≡ answers_abroad
   pub unclaimed : Claimed 16 (past left abroad) → ⊥

@@ -6,8 +6,8 @@ pub returns : goal.returns
 returns c = record {
   refused_exactly = points.point (λ M N. RefusedExactly M) (λ M N h s e f. f.refused_exactly);
   label_tells = points.point LabelTells (λ M N h s e f. f.label_tells);
-  reads-back = points.point ReadsBack (λ M N h s e f. f.reads-back);
+  reads_back = points.point ReadsBack (λ M N h s e f. f.reads_back);
   change_counted = points.point ChangeCounted (λ M N h s e f. f.change_counted);
   hosts_agree = points.hosts_agree;
-  handed-over = points.handed-over;
+  handed_over = points.handed_over;
 }
