@@ -1,5 +1,5 @@
 -- Eight bytes as one number: xor goes byte by byte, and S and P read the bytes.
-use Rattle.std.proofs.Common.{◌≡◌, ℕ, ◌+◌, ◌-◌, ◌*◌, ◌/◌, ◌%◌, ◌^◌, ◌<◌, sym, ◌∙◌, ap₂, arith}
+use Rattle.std.proofs.Common.{◌≡◌, ℕ, ◌+◌, ◌*◌, ◌/◌, ◌%◌, ◌^◌, ◌<◌, sym, ◌∙◌, ap₂, arith}
 use lib.Bits.{bit_xor, xor_block}
 use Rattle.camellia.specs.Numbers.{join8}
 use Rattle.camellia.specs.Sbox.{s1, s2, s3, s4}

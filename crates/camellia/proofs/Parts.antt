@@ -1,5 +1,5 @@
 -- FL and its inverse on the two 32-bit parts of a half and of a key.
-use Rattle.std.proofs.Common.{◌≡◌, ℕ, ◌+◌, ◌-◌, ◌*◌, ◌/◌, ◌%◌, ◌^◌, ◌<◌, arith}
+use Rattle.std.proofs.Common.{◌≡◌, ℕ, ◌+◌, ◌*◌, ◌/◌, ◌%◌, ◌^◌, ◌<◌, arith}
 use Rattle.camellia.specs.Functions.{FL, FLINV, fl_right, fl_left}
 
 module _ (xl xr kl kr : ℕ) (hx : xr < 2 ^ 32) (hl : kl < 2 ^ 32) (hr : kr < 2 ^ 32) where

@@ -1,8 +1,8 @@
 -- The functions of a half give halves.
-use Rattle.std.proofs.Common.{◌≡◌, ℕ, ◌+◌, ◌-◌, ◌*◌, ◌/◌, ◌%◌, ◌^◌, ◌<◌, map, get_or, sym, refl, ◌∙◌, arith}
+use Rattle.std.proofs.Common.{◌≡◌, ℕ, ◌+◌, ◌*◌, ◌/◌, ◌%◌, ◌^◌, ◌<◌, arith}
 use lib.ListN.{get_or-map}
 use lib.Bits.{bit_or, or_lt, xor_lt}
-use Rattle.camellia.specs.Numbers.{rotl, rotr, join8, ◌⊕◌}
+use Rattle.camellia.specs.Numbers.{rotl, join8, ◌⊕◌}
 use Rattle.camellia.specs.Sbox.{s1, s2, s3, s4, s1table}
 use Rattle.camellia.specs.Functions.{P, PS, F, FL, FLINV, fl_right, fl_left}
 use Rattle.camellia.proofs.Undo.{fl_right-lt}

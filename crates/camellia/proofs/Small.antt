@@ -1,11 +1,11 @@
 -- Numbers of 64 bits stay so: through the layers, and in the schedule of a key.
-use Rattle.std.proofs.Common.{◌≡◌, ℕ, ◌+◌, ◌-◌, ◌*◌, ◌/◌, ◌%◌, ◌^◌, ◌<◌, Bool, true, false, cond, eqb, List, [], ◌∷◌, length, get_or, refl, arith}
-use lib.Bits.{bit_or, bit_xor, or_lt, xor_lt}
+use Rattle.std.proofs.Common.{ℕ, ◌+◌, ◌-◌, ◌*◌, ◌/◌, ◌%◌, ◌^◌, ◌<◌, Bool, true, false, cond, eqb, List, [], ◌∷◌, length, get_or, arith}
+use lib.Bits.{bit_xor, or_lt, xor_lt}
 use Rattle.std.proofs.lemmas.Nat.{shr_le}
 use Rattle.octets.specs.Octets.{Bytes}
 use Rattle.camellia.specs.Numbers.{rotl, half_at}
 use Rattle.camellia.specs.Functions.{F}
-use Rattle.camellia.specs.Rounds.{State, st, step, run, swapped, whitened}
+use Rattle.camellia.specs.Rounds.{State, step, run, swapped, whitened}
 use Rattle.camellia.specs.Keys.{joined, left_half, right_half, halves, mixed, material, from, subkey, key_l, key_r, Schedule, schedule, scheduled, reversed, whitening18, whitening24, layers18, layers24}
 use Rattle.camellia.specs.Cipher.{encrypt}
 use Rattle.camellia.specs.declared.plan.Layer.{Layer}

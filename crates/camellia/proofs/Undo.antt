@@ -1,5 +1,5 @@
 -- The layers in the reverse order undo the layers, whatever F is.
-use Rattle.std.proofs.Common.{◌≡◌, ℕ, ◌+◌, ◌-◌, ◌*◌, ◌/◌, ◌%◌, ◌^◌, ◌<◌, List, [], ◌∷◌, ◌++◌, sym, refl, ap, ◌∙◌, ap₂, append_assoc, arith}
+use Rattle.std.proofs.Common.{◌≡◌, ℕ, ◌*◌, ◌/◌, ◌%◌, ◌^◌, ◌<◌, List, [], ◌∷◌, ◌++◌, sym, refl, ap, ◌∙◌, ap₂, append_assoc, arith}
 use lib.Bits.{bit_and, bit_or, or_lt, xor_lt, and_le_r}
 use Rattle.std.proofs.lemmas.Nat.{shr_high, mod_low, shr_split}
 use Rattle.camellia.specs.Numbers.{rotl}

@@ -2,7 +2,7 @@
 use Rattle.std.proofs.Common.{◌≡◌, ℕ, List, sym, ap, ◌∙◌}
 use Rattle.octets.specs.Octets.{Block}
 use Rattle.camellia.specs.Keys.{Schedule, schedule, reversed}
-use Rattle.camellia.specs.Cipher.{encrypt, to_state, to_bytes, enciphered, deciphered, E, D}
+use Rattle.camellia.specs.Cipher.{encrypt, to_state, to_bytes, enciphered}
 use Rattle.camellia.specs.Laws.{Undone, Sized}
 use Rattle.camellia.proofs.Undo.{decrypt_encrypt, reversed-reversed}
 use Rattle.camellia.proofs.Small.{SmallKeys, encrypt-small, reversed-small, schedule-small}

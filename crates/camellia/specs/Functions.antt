@@ -1,5 +1,5 @@
 -- The functions of a 64-bit half: S, P and F, FL and its inverse (RFC 3713, section 2.4).
-use Rattle.std.specs.Prelude.{ℕ, ◌+◌, ◌-◌, ◌*◌, ◌/◌, ◌%◌, ◌^◌, bit_and, bit_or}
+use Rattle.std.specs.Prelude.{ℕ, ◌+◌, ◌*◌, ◌/◌, ◌%◌, ◌^◌, bit_and, bit_or}
 use Rattle.camellia.specs.Numbers.{rotl, join8, ◌⊕◌}
 use Rattle.camellia.specs.Sbox.{s1, s2, s3, s4}
 

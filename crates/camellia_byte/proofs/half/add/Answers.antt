@@ -1,6 +1,5 @@
 use mathlib.Core.Path.{sym}
 use borrow.Author.Rules.{rules}
-use Prim.Native.Nat.{◌<◌}
 use lib.ListN.{get_or}
 use Rattle.camellia.proofs.Bytes.{Eight, xor-join8}
 use Rattle.camellia_byte.proofs.half.add.Goals as goal

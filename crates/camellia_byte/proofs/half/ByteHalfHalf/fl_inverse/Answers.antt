@@ -1,5 +1,4 @@
 use borrow.Author.Rules.{rules}
-use Prim.Native.Nat.{◌<◌, ◌^◌}
 use mathlib.Core.Path.{sym, ap, ap₂, ◌∙◌}
 use Rattle.camellia.specs.Functions.{FLINV}
 use Rattle.camellia.proofs.Parts.{FLINV_parts}
