@@ -4,7 +4,7 @@ use Rattle.law.specs.Model.{kept_if, cleared_to}
 use Rattle.sealed_store.specs.Told.{keys_in}
 use Rattle.sealed_store.proofs.Writes.{cleared_next, unworn-next}
 use Rattle.sealed_store.proofs.frames.clear.Goals as goal
-use Rattle.sealed_store.proofs.frames.clear.Goals.{then-not-is-worn, else-not-is-worn}
+use Rattle.sealed_store.proofs.frames.clear.Goals.{then-not-is_worn, else-not-is_worn}
 
 pub loop-n-preserved : goal.loop-n-preserved
 loop-n-preserved g c =
@@ -15,10 +15,10 @@ loop-n-preserved g c =
     let fs : List (List ℕ) = s.frames c.args.store.now in
     let k = keys_in g.E.Engine c.args.pair.now in
     let one : 1 ≤ n = c.loop-n.auto.n in
-    let test : W n ≡ c.is-worn.result = ap (λ (v : ℕ → Bool). v n) (sym i.4) ∙ sym c.is-worn.ensures in
-    elim c.if-not-is-worn.branch [
-      | then-not-is-worn w ↦
-          (let free : W n ≡ false = test ∙ w.if-not-is-worn.true in
+    let test : W n ≡ c.is_worn.result = ap (λ (v : ℕ → Bool). v n) (sym i.4) ∙ sym c.is_worn.ensures in
+    elim c.if-not-is_worn.branch [
+      | then-not-is_worn w ↦
+          (let free : W n ≡ false = test ∙ w.if-not-is_worn.true in
           let here : s.worn c.loop-n.store n ≡ false = ap (λ (v : ℕ → Bool). v n) i.4 ∙ free in
           let b : List ℕ = w.seal.new.bytes in
           let y = w.sealed-is in (
@@ -31,8 +31,8 @@ loop-n-preserved g c =
                 ∙ cleared_next W k n fs false one free,
             ap s.worn w.store-is ∙ ap (λ (t : Store). t.worn) w.put.ensures ∙ i.4,
           ))
-      | else-not-is-worn w ↦
-          (let full : W n ≡ true = test ∙ w.if-not-is-worn.false in
+      | else-not-is_worn w ↦
+          (let full : W n ≡ true = test ∙ w.if-not-is_worn.false in
           let y = w.sealed-is in
           let z : unworn_to W (n - 1) + 0 ≡ unworn_to W (n - 1) = omega arith in (
             omega arith,

@@ -4,4 +4,4 @@ use Rattle.sealed_store.proofs.PairKeys.{check-is}
 use Rattle.sealed_store.proofs.keys.check_value.Goals as goal
 
 pub returns : goal.returns
-returns g c = c.check-value.ensures ∙ check-is (keys_in g.E.Engine c.args.pair.now)
+returns g c = c.check_value.ensures ∙ check-is (keys_in g.E.Engine c.args.pair.now)
