@@ -5,14 +5,14 @@ use Rattle.label.proofs.Kept.{lettered_decides}
 use Rattle.card_labels.proofs.Check.{check-long}
 use Rattle.card_labels.proofs.made.Goals as goal
 
-pub invariant-of-result : goal.invariant-of-result
-invariant-of-result g c =
-    let e = c.check-value-check.ensures in
-    let lo = c.if-frames-lt2.false in
-    let hi = c.if-frames-gt1024.false in (
-      (lettered_decides _).1 (subst EightLetters (sym c.cipher-name-cipher.ensures) g.met.E.Engine.lettered),
-      (
-        (omega arith, omega arith),
-        ((ap length e ∙ check-long _, c.octets.ensures), ((λ b x. absurd (false≢true (ap is_some x))), (omega arith, ((λ x. refl), tt)))),
-      ),
-    )
+pub invariant_of-result : goal.invariant_of-result
+invariant_of-result g c =
+    let e = c.check_value-check.ensures in
+    record {
+      named = (lettered_decides _).1 (subst EightLetters (sym c.cipher_name-cipher.ensures) g.met.E.Engine.lettered);
+      counted = (omega arith, omega arith);
+      checked = (ap length e ∙ check-long _, c.octets.ensures);
+      nexted = λ b x. absurd (false≢true (ap is_some x));
+      within = omega arith;
+      still = λ x. refl;
+    }

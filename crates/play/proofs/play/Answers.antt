@@ -21,14 +21,14 @@ loop-i-preserved g c =
     let ys : List Turn = c.loop-i.turns in
     let i : ℕ = c.loop-i.i in
     let x : Turn = c.index-turns-i.result in
-    let t : Turn = c.take-turn.new.turn in
-    let ens = c.take-turn.ensures in
+    let t : Turn = c.take_turn.new.turn in
+    let ens = c.take_turn.ensures in
     let in-xs : i < length xs = c.loop-i-test.true in
     let in_ys : i < length ys = subst (λ n. i < n) (sym c.loop-i.auto.turns) in-xs in
     let k = C.card c.loop-i.card in
-    let k' = C.card c.take-turn.new.card in
+    let k' = C.card c.take_turn.new.card in
     let s = C.store c.loop-i.card in
-    let s' = C.store c.take-turn.new.card in
+    let s' = C.store c.take_turn.new.card in
     let took : Took C.kind k k' s s' (get_or ys i x) t =
     record { given = ens.given; answer = ens.answer; card = ens.card; store = ens.store; left = ens.left } in (
       stage_next C.kind (C.card c.args.card.now) k k' (C.store c.args.card.now) s s' xs ys i x t in-xs in_ys c.loop-i.invariant.0
