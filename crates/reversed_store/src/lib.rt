@@ -31,6 +31,7 @@ impl ReversedImage {
         self.image.into_bytes()
     }
 
+    #[tactic(auto, using(crate::proofs::Back::length_back))]
     fn slot(&self, n: u64) -> u64
         requires { n < frame_count (length self.now.image.bytes.items) }
         ensures { result ≡ backwards (frame_count (length self.now.image.bytes.items)) n }
