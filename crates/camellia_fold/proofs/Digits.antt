@@ -1,9 +1,8 @@
 -- And, or and a rotation over xor.
-use Prim.Native.Nat.{ℕ, zero, suc, ◌+◌, ◌-◌, ◌*◌, ◌/◌, ◌%◌, ◌^◌, ◌≤◌, ◌<◌}
-use mathlib.Core.Path.{◌≡◌, refl, sym, ap, ap₂, ◌∙◌}
-use native.Mathlib.Omega.{arith}
-use lib.Arith.{bin_ind}
-use lib.Bits.{bit_and, bit_or, bit_xor, and_shr, or_shr, xor_shr, and_mod, or_mod, xor_mod, and_mask, and_comm, xor_comm, xor_lt, xor_add_and, xor_block, or_shifted}
+use Rattle.std.proofs.Common.{ℕ, zero, suc, ◌+◌, ◌-◌, ◌*◌, ◌/◌, ◌%◌, ◌^◌, ◌≤◌, ◌<◌, ◌≡◌, refl, sym, ap, ap₂, ◌∙◌, arith, bit_and, bit_or, bit_xor}
+use Rattle.std.specs.Int.Bits.{xor_add_and}
+use Rattle.std.proofs.Math.Arith.{bin_ind}
+use Rattle.std.proofs.lemmas.Nat.{and_shr, or_shr, xor_shr, and_mod, or_mod, xor_mod, and_mask, and_comm, xor_comm, xor_lt, xor_block, or_shifted}
 use Rattle.camellia.specs.Numbers.{rotl, ◌⊕◌}
 
 -- ---- functions of three numbers that go digit by digit agree everywhere if they agree on digits

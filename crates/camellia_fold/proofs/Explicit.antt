@@ -1,8 +1,5 @@
 -- The folded schedule key by key, in both shapes; k and ke number the round keys and the keys of FL as RFC 3713 does.
-use Prim.Native.Nat.{ℕ, ◌+◌, ◌-◌}
-use mathlib.Core.Path.{◌≡◌, refl}
-use mathlib.Core.List.{List, [], ◌∷◌, map}
-use lib.ListN.{get_or}
+use Rattle.std.proofs.Common.{ℕ, ◌+◌, ◌-◌, ◌≡◌, refl, List, [], ◌∷◌, map, get_or}
 use Rattle.camellia.specs.Numbers.{◌⊕◌}
 use Rattle.camellia.specs.Rounds.{backward}
 use Rattle.camellia.specs.Keys.{Schedule, scheduled, layer_of, whitening_of, whitening18, layers18, whitening24, layers24}

@@ -1,7 +1,5 @@
 -- An offset moves through the layers, and the layers that take it give the same state with the last offset.
-use Prim.Native.Nat.{ℕ}
-use mathlib.Core.Path.{◌≡◌, refl, ap, ◌∙◌}
-use mathlib.Core.List.{List, [], ◌∷◌}
+use Rattle.std.proofs.Common.{ℕ, ◌≡◌, refl, ap, ◌∙◌, List, [], ◌∷◌}
 use Rattle.camellia.specs.Numbers.{◌⊕◌}
 use Rattle.camellia.specs.Functions.{PS, F, FL, FLINV}
 use Rattle.camellia.specs.Rounds.{State, st, step, run}

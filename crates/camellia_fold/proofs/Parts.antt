@@ -1,7 +1,5 @@
 -- An offset through FL and its inverse on the two 32-bit parts of the offset and of a key.
-use Prim.Native.Nat.{ℕ, ◌+◌, ◌*◌, ◌/◌, ◌%◌, ◌^◌, ◌<◌}
-use mathlib.Core.Path.{◌≡◌}
-use native.Mathlib.Omega.{arith}
+use Rattle.std.proofs.Common.{ℕ, ◌+◌, ◌*◌, ◌/◌, ◌%◌, ◌^◌, ◌<◌, ◌≡◌, arith}
 use Rattle.camellia.specs.Functions.{fl_right}
 use Rattle.camellia_fold.specs.Fold.{offset_left, through_fl, through_fl_inverse}
 

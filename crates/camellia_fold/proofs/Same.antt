@@ -1,11 +1,6 @@
 -- The folded schedule is the same cipher: kw2 goes in from the front, then kw4 by the same lemma on the reversed schedule.
-use Prim.Native.Nat.{ℕ}
-use mathlib.Core.Bool.{Bool, true, false, cond}
-use mathlib.Core.Path.{◌≡◌, refl, sym, ap, ◌∙◌}
-use mathlib.Core.List.{List}
-use lib.Bits.{xor_zero_r}
-use lib.Dec.{eqb}
-use lib.ListN.{length}
+use Rattle.std.proofs.Common.{ℕ, Bool, true, false, cond, ◌≡◌, refl, sym, ap, ◌∙◌, List, eqb, length}
+use Rattle.std.specs.Int.Bits.{xor_zero_r}
 use Rattle.camellia.specs.Numbers.{◌⊕◌}
 use Rattle.camellia.specs.Rounds.{State, st, run, swapped, whitened, backward}
 use Rattle.camellia.specs.Keys.{Schedule, schedule, scheduled, reversed, material, key_l, key_r, whitening18, layers18, whitening24, layers24}

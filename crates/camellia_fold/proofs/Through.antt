@@ -1,8 +1,6 @@
 -- FL and its inverse of a half with an offset: the offset goes through by itself.
-use Prim.Native.Nat.{ℕ, ◌+◌, ◌-◌, ◌*◌, ◌/◌, ◌%◌, ◌^◌, ◌<◌}
-use mathlib.Core.Path.{◌≡◌, ap, ap₂, sym, ◌∙◌}
-use native.Mathlib.Omega.{arith}
-use lib.Bits.{bit_and, bit_or, xor_shr, xor_mod, xor_block, and_le_r}
+use Rattle.std.proofs.Common.{ℕ, ◌+◌, ◌-◌, ◌*◌, ◌/◌, ◌%◌, ◌^◌, ◌<◌, ◌≡◌, ap, ap₂, sym, ◌∙◌, arith, bit_and, bit_or}
+use Rattle.std.proofs.lemmas.Nat.{xor_shr, xor_mod, xor_block, and_le_r}
 use Rattle.camellia.specs.Numbers.{rotl, ◌⊕◌}
 use Rattle.camellia.specs.Functions.{FL, FLINV, fl_right, fl_left}
 use Rattle.camellia.proofs.Xors.{xors}

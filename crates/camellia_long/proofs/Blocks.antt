@@ -1,6 +1,6 @@
 -- Layers on several blocks: a loop so far, one run of layers after another, and whitening around a run.
 use Rattle.std.proofs.Common.{◌≡◌, ℕ, ◌<◌, ◌≤◌, Bool, List, ◌++◌, length, get_or, sym, ap, ◌∙◌, subst, ap₂}
-use lib.Bits.{xor_zero_r}
+use Rattle.std.specs.Int.Bits.{xor_zero_r}
 use Rattle.camellia.specs.Numbers.{◌⊕◌}
 use Rattle.camellia.specs.Rounds.{State, st, run, backward}
 use Rattle.camellia.specs.Keys.{Schedule}

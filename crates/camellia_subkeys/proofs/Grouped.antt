@@ -1,8 +1,5 @@
 -- The fold by groups is the fold of the schedule.
-use mathlib.Core.Bool.{true, false}
-use mathlib.Core.List.{[], ◌∷◌}
-use mathlib.Core.Path.{◌≡◌, refl}
-use lib.ListN.{replicate}
+use Rattle.std.proofs.Common.{true, false, [], ◌∷◌, ◌≡◌, refl, replicate}
 use Rattle.camellia.specs.Rounds.{backward}
 use Rattle.camellia.specs.Keys.{scheduled, whitening18, layers18, whitening24, layers24}
 use Rattle.camellia.specs.declared.plan.Material.{Material}

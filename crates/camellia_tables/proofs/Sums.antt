@@ -1,6 +1,7 @@
 -- P is the sum of its eight columns, each multiplied by one byte.
-use Rattle.std.proofs.Common.{◌≡◌, ℕ, ◌*◌, ◌<◌, ◌∙◌, ap₂, arith, lit<}
-use lib.Bits.{bit_xor, xor_lt, xor_zero_r}
+use Rattle.std.proofs.Common.{◌≡◌, ℕ, ◌*◌, ◌<◌, ◌∙◌, ap₂, arith, lit<, bit_xor}
+use Rattle.std.specs.Int.Bits.{xor_zero_r}
+use Rattle.std.proofs.lemmas.Nat.{xor_lt}
 use Rattle.camellia.specs.Numbers.{join8, ◌⊕◌}
 use Rattle.camellia.specs.Functions.{P}
 use Rattle.camellia.proofs.Bytes.{Eight, xor-join8}

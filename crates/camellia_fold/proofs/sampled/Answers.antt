@@ -1,4 +1,4 @@
-use mathlib.Core.Path.{refl}
+use Rattle.std.proofs.Common.{refl}
 use Rattle.camellia.specs.Sbox.{s1, s1table}
 use Rattle.camellia.specs.Functions.{P, PS, F, FL, FLINV}
 use Rattle.camellia.specs.Rounds.{run, backward}

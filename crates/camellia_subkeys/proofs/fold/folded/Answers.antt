@@ -1,4 +1,4 @@
-use mathlib.Core.Path.{ap₂, ◌∙◌}
+use Rattle.std.proofs.Common.{ap₂, ◌∙◌}
 use Rattle.camellia_subkeys.specs.Folded.{woven_keys}
 use Rattle.camellia_subkeys.proofs.fold.folded.Goals as goal
 

@@ -1,7 +1,4 @@
-use Prim.Native.Nat.{ℕ, ◌/◌, ◌%◌, ◌^◌}
-use mathlib.Core.Path.{◌≡◌, ap, ap₂, ◌∙◌}
-use native.Mathlib.Omega.{arith}
-use lib.Bits.{bit_xor}
+use Rattle.std.proofs.Common.{ℕ, ◌/◌, ◌%◌, ◌^◌, ◌≡◌, ap, ap₂, ◌∙◌, arith, bit_xor}
 use Rattle.camellia.specs.Functions.{fl_right}
 use Rattle.camellia_rounds.specs.Parts.{whole}
 use Rattle.camellia_fold.specs.Fold.{offset_left, through_fl_inverse}

@@ -1,4 +1,4 @@
-use mathlib.Core.List.{[], ◌∷◌}
+use Rattle.std.proofs.Common.{[], ◌∷◌}
 use Rattle.camellia_subkeys.specs.Folded.{woven_groups}
 use Rattle.camellia_subkeys.proofs.fold.woven_groups.Goals as goal
 

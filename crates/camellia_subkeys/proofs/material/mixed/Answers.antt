@@ -1,4 +1,4 @@
-use mathlib.Core.Path.{ap₂, ◌∙◌}
+use Rattle.std.proofs.Common.{ap₂, ◌∙◌}
 use Rattle.camellia.specs.Rounds.{run}
 use Rattle.camellia.specs.Keys.{joined, mixed}
 use Rattle.camellia_subkeys.proofs.material.mixed.Goals as goal

@@ -1,5 +1,4 @@
-use Rattle.std.proofs.Common.{ℕ, ◌/◌, ◌%◌, ◌^◌, ◌∙◌}
-use lib.Bits.{bit_xor}
+use Rattle.std.proofs.Common.{ℕ, ◌/◌, ◌%◌, ◌^◌, ◌∙◌, bit_xor}
 use Rattle.camellia.specs.Sbox.{s1, s2, s3, s4, s1table}
 use Rattle.camellia.specs.Functions.{F, PS}
 use Rattle.camellia.proofs.Range.{s1-lt, s2-lt, s3-lt, s4-lt}

@@ -1,7 +1,4 @@
-use mathlib.Core.Bool.{false}
-use mathlib.Core.List.{[], ◌∷◌}
-use mathlib.Core.Path.{ap, ◌∙◌}
-use lib.ListN.{replicate}
+use Rattle.std.proofs.Common.{false, [], ◌∷◌, ap, ◌∙◌, replicate}
 use Rattle.camellia_subkeys.specs.Groups.{schedule_of}
 use Rattle.camellia_subkeys.specs.Slots.{slots_of, whitening_at, without_kb}
 use Rattle.camellia_subkeys.specs.Folded.{folded_of}

@@ -1,6 +1,4 @@
-use mathlib.Core.Bool.{true}
-use mathlib.Core.List.{[], ◌∷◌}
-use mathlib.Core.Path.{ap, ◌∙◌}
+use Rattle.std.proofs.Common.{true, [], ◌∷◌, ap, ◌∙◌}
 use Rattle.camellia.specs.Keys.{material}
 use Rattle.camellia_subkeys.specs.Groups.{schedule_of}
 use Rattle.camellia_subkeys.specs.Slots.{slots_of, whitening_at}
