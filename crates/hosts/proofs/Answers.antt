@@ -1,5 +1,5 @@
 -- A pair that is refused is one that is not accepted.
-use Rattle.std.proofs.Common.{◌≡◌, ℕ, Bool, true, false, ◌&&◌, Ok, Err, refl, arith}
+use Rattle.std.proofs.Common.{◌≡◌, ℕ, Bool, true, false, ◌&&◌, Err, refl, arith}
 use Rattle.refusal.specs.declared.Refusal.{Refusal}
 use Rattle.sealing.specs.Pair.{pair_answer}
 

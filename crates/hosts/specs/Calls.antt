@@ -1,5 +1,5 @@
 -- What a call from C returns, and what it leaves.
-use Rattle.std.specs.Prelude.{ℕ, ◌/◌, Bool, true, false, cond, ◌&&◌, List, length, ◌==◌}
+use Rattle.std.specs.Prelude.{ℕ, ◌/◌, Bool, true, false, ◌&&◌, List, length, ◌==◌}
 use Rattle.hosts.specs.declared.way.Way.{Way}
 use Rattle.hosts.specs.declared.way.Way.TheVariants.{Seal, Open}
 use Rattle.sealing.specs.Pair.{paired, data_key, tweak_key}

@@ -1,19 +1,17 @@
 -- Two kinds of engine that share their cipher answer alike, on stores that tell the same frames.
-use Rattle.std.proofs.Common.{◌≡◌, ℕ, zero, suc, ◌-◌, ◌*◌, ◌<◌, ◌≤◌, Bool, true, false, cond, not, ◌&&◌, eqb, leb, ◌⊎◌, List, [], ◌∷◌, ◌++◌, length, get_or, replicate, Some, None, Option, sym, refl, ap, ◌∙◌, subst, ap₂, inl, inr, arith}
-use mathlib.Core.Path.{subst⁻¹}
-use mathlib.Core.Bool.{false≢true}
+use Rattle.std.proofs.Common.{◌≡◌, ℕ, zero, suc, ◌-◌, ◌*◌, ◌≤◌, Bool, true, false, cond, not, ◌&&◌, eqb, leb, List, [], ◌∷◌, length, get_or, replicate, Some, None, Option, sym, refl, ap, ◌∙◌, subst, ap₂, inl, inr, arith}
 use Rattle.std.specs.Str.{bytes_eq}
 use Rattle.std.proofs.lemmas.Bool.{eqb-true, not-false, and_parts, and_from, cases_lt}
-use Rattle.octets.specs.Octets.{Bytes, Block}
+use Rattle.octets.specs.Octets.{Bytes}
 use Rattle.refusal.specs.declared.Refusal.{Refusal}
-use Rattle.sealing.specs.Pair.{data_key, tweak_key, check_value}
+use Rattle.sealing.specs.Pair.{data_key, tweak_key}
 use Rattle.label.specs.Text.{Fields}
 use Rattle.law.specs.Kind.{Kind, Lawful, Shared, Keys, keys_of, idle, seal, unseal, check_of, half_taken, good}
 use Rattle.law.specs.Store.{Store, size, frame_at, Sized, Same}
-use Rattle.law.specs.Labels.{label_in, labelled, made_label}
-use Rattle.law.specs.Calls.{Call, make, mount, eject, read, write, start, step, status, Answer, made, mounted, ejected, got, started, stepped, Given}
+use Rattle.law.specs.Labels.{label_in, made_label}
+use Rattle.law.specs.Calls.{Call, make, mount, eject, read, write, start, step, status, got, Given}
 use Rattle.law.specs.Checks.{checks, refusal, second_fits, second_checks}
-use Rattle.law.specs.Model.{Card, off, state_of, state_by, held, keys_for, keys_by, started_label, ended_label, is_over, after_step, step_label, second_keys, cleared_to, zeros, put, kept_if, relabelled, resealed, Outcome, perform, decide, act, start_on, step_on, status_of, events}
+use Rattle.law.specs.Model.{Card, off, state_by, held, keys_by, started_label, is_over, after_step, step_label, second_keys, cleared_to, zeros, put, kept_if, relabelled, resealed, Outcome, perform, decide, act, start_on, step_on, events}
 use Rattle.law.specs.Runs.{AllGiven}
 use Rattle.law.specs.Law.{Agree}
 use Rattle.law.proofs.Checks.{passed, alike_checks}

@@ -1,23 +1,22 @@
 -- The label of a mounted card stands in frame 0 and tells its state, made here or not.
-use Rattle.std.proofs.Common.{◌≡◌, ℕ, zero, suc, ◌+◌, ◌-◌, ◌*◌, ◌/◌, ◌<◌, ◌≤◌, Bool, true, false, cond, not, ◌&&◌, eqb, ltb, leb, ◌≢◌, List, [], ◌∷◌, length, get_or, is_some as option_is_some, Some, None, Option, unwrap_or, sym, refl, ap, ◌∙◌, subst, ap₂, true≢false, arith}
+use Rattle.std.proofs.Common.{◌≡◌, ℕ, suc, ◌-◌, ◌/◌, ◌<◌, ◌≤◌, Bool, true, false, ◌&&◌, eqb, ◌≢◌, List, length, is_some as option_is_some, Some, None, Option, unwrap_or, sym, refl, ap, ◌∙◌, subst, ap₂, true≢false, arith}
 use mathlib.Core.Path.{subst⁻¹}
 use mathlib.Core.Bool.{false≢true}
-use Rattle.std.specs.Str.{bytes_eq}
 use Rattle.std.proofs.lemmas.Slice.Eq.{bytes_eq-Decides}
-use Rattle.std.proofs.lemmas.Bool.{ltb-false, eqb-true, eq-eqb, eqb-false, not-false, and_parts, and_from, cond-false}
+use Rattle.std.proofs.lemmas.Bool.{ltb-false, eqb-true, eqb-false, not-false, and_parts, and_from, cond-false}
 use Rattle.octets.specs.Octets.{Bytes}
 use Rattle.label.specs.Text.{Fields, Rules, Four, text}
 use Rattle.label.specs.Read.{reads}
 use Rattle.sealing.specs.Pair.{paired}
-use Rattle.law.specs.Kind.{Kind, Lawful, Keys, keys_of, idle, seal, check_of, half_taken, good}
+use Rattle.law.specs.Kind.{Kind, Lawful, keys_of, seal, check_of, good}
 use Rattle.law.specs.Store.{Store, size, frame_at}
-use Rattle.law.specs.Labels.{blank, label_in, labelled, made_label, label_for}
-use Rattle.law.specs.Calls.{Call, make, mount, eject, read, write, start, step, status, Answer, started, stepped, told, Given}
+use Rattle.law.specs.Labels.{label_in, labelled, made_label}
+use Rattle.law.specs.Calls.{Call, make, mount, eject, read, write, start, step, status, started, stepped, told, Given}
 use Rattle.law.specs.Checks.{checks, refusal}
-use Rattle.law.specs.Model.{Card, off, state_of, state_by, held, keys_for, started_label, ended_label, moved_label, is_over, after_step, step_label, cleared_to, put, relabelled, resealed, Outcome, perform, start_on, step_on, status_of}
+use Rattle.law.specs.Model.{Card, state_of, state_by, held, keys_for, started_label, ended_label, moved_label, is_over, after_step, step_label, cleared_to, put, relabelled, resealed, perform, start_on, step_on, status_of}
 use Rattle.law.specs.Law.{Told}
 use Rattle.law.proofs.Checks.{passed}
-use Rattle.law.proofs.Sealing.{check-four, key-size}
+use Rattle.law.proofs.Sealing.{check-four}
 use Rattle.label.proofs.Read.{reads-text, reads_rules}
 use Rattle.law.proofs.Holds.{none≢some, some_same, rules_rest, put_same, put_other, length-put, length_cleared}
 

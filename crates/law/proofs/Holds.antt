@@ -1,18 +1,18 @@
 -- What holds at each moment of a claimed list of calls, and that each call keeps it.
-use Rattle.std.proofs.Common.{◌≡◌, ℕ, zero, suc, ◌+◌, ◌-◌, ◌*◌, ◌/◌, ◌<◌, ◌≤◌, Bool, true, false, cond, not, ◌&&◌, ◌||◌, eqb, ltb, leb, ◌≢◌, ◌⊎◌, List, [], ◌∷◌, length, get_or, set, replicate, Some, None, Option, unwrap_or, sym, refl, ap, ◌∙◌, subst, ap₂, inl, inr, true≢false, arith, length-set, get_or-set_other, get_or-set_same}
+use Rattle.std.proofs.Common.{◌≡◌, ℕ, zero, suc, ◌-◌, ◌*◌, ◌<◌, ◌≤◌, Bool, true, false, cond, eqb, leb, ◌≢◌, List, [], length, get_or, replicate, Some, None, Option, unwrap_or, sym, refl, ap, ◌∙◌, subst, ap₂, inl, inr, true≢false, arith, length-set, get_or-set_other, get_or-set_same}
 use mathlib.Core.Path.{subst⁻¹}
 use mathlib.Core.Bool.{false≢true}
-use Rattle.std.proofs.lemmas.Bool.{ltb-true, ltb-false, leb-true, leb-false, eqb-true, eqb-false, le-leb, lt-leb, eq-eqb, ne_eqb, not-true, not-false, and_parts, and_from, cases_Bool, cases_eq, cond-true, cond-false, cond_both}
+use Rattle.std.proofs.lemmas.Bool.{ltb-false, leb-true, leb-false, eqb-true, eqb-false, le-leb, lt-leb, eq-eqb, ne_eqb, not-false, and_parts, and_from, cases_Bool, cases_eq, cond-true, cond-false, cond_both}
 use Rattle.octets.specs.Octets.{Bytes, Frame}
 use Rattle.sealing.specs.Pair.{paired}
 use Rattle.label.specs.Text.{Fields, Rules, Four, text}
 use Rattle.label.specs.Read.{reads}
-use Rattle.law.specs.Kind.{Kind, Lawful, Keys, keys_of, idle, seal, unseal, check_of, half_taken, good}
+use Rattle.law.specs.Kind.{Kind, Lawful, Keys, keys_of, idle, seal, unseal, check_of, good}
 use Rattle.law.specs.Store.{Store, size, frame_at}
-use Rattle.law.specs.Labels.{blank, label_in, labelled, made_label, label_for}
-use Rattle.law.specs.Calls.{Call, make, mount, eject, read, write, start, step, status, Answer, refused, Given}
+use Rattle.law.specs.Labels.{made_label, label_for}
+use Rattle.law.specs.Calls.{Call, make, mount, eject, read, write, start, step, status, Given}
 use Rattle.law.specs.Checks.{checks, refusal}
-use Rattle.law.specs.Model.{Card, off, state_of, held, keys_for, started_label, ended_label, moved_label, is_over, after_step, step_label, second_keys, zeros, cleared_to, put, kept_if, relabelled, resealed, Outcome, perform, start_on, step_on}
+use Rattle.law.specs.Model.{Card, off, state_of, held, keys_for, ended_label, after_step, step_label, second_keys, zeros, cleared_to, kept_if, relabelled, resealed, Outcome, perform, start_on, step_on}
 use Rattle.law.specs.History.{content_by, steps_by, new_pair_by, in_change_by, pair_by, is_on_by, claim_by}
 use Rattle.law.proofs.Checks.{passed}
 use Rattle.law.proofs.Sealing.{opens, check-four, key-size}

@@ -1,15 +1,15 @@
 -- The law whole: of the events of two lists on two cards that begin new.
-use Rattle.std.proofs.Common.{◌≡◌, ℕ, ◌≤◌, false, List, [], ◌∷◌, ◌++◌, Some, None, Option, sym, refl, ap, ◌∙◌, subst, arith}
+use Rattle.std.proofs.Common.{◌≡◌, ℕ, ◌≤◌, List, [], ◌∷◌, ◌++◌, Some, None, Option, ◌∙◌, subst, arith}
 use mathlib.Core.Path.{subst⁻¹}
 use Rattle.label.specs.Text.{Fields}
 use Rattle.law.specs.Kind.{Kind, Lawful, Shared}
 use Rattle.law.specs.Store.{Store, size, Sized, Same}
 use Rattle.law.specs.Labels.{labelled}
 use Rattle.law.specs.Calls.{Call, Given}
-use Rattle.law.specs.Model.{Card, off, state_of, state_by, act, events}
-use Rattle.law.specs.History.{Event, History, state}
+use Rattle.law.specs.Model.{Card, off, state_by, events}
+use Rattle.law.specs.History.{Event, state}
 use Rattle.law.specs.Runs.{AllGiven, Every}
-use Rattle.law.specs.Law.{Agree, HandedOver, HostsAgree, Law, onto, last_store}
+use Rattle.law.specs.Law.{Agree, onto, last_store}
 use Rattle.law.proofs.Runs.{Moment, after, begun, begins, Sits, IdleBy, fair, sits_after, course}
 use Rattle.law.proofs.Agree.{agrees, off_like, same_store}
 

@@ -1,23 +1,22 @@
 -- Each call of a list is fair.
-use Rattle.std.proofs.Common.{◌≡◌, ℕ, zero, suc, ◌+◌, ◌-◌, ◌*◌, ◌<◌, ◌≤◌, Bool, true, false, cond, not, ◌&&◌, eqb, ltb, leb, ◌≢◌, ◌⊎◌, List, [], ◌∷◌, length, get_or, set, is_some, Some, None, Option, unwrap_or, sym, refl, ap, ◌∙◌, subst, ap₂, inl, inr, true≢false, arith, length-set}
+use Rattle.std.proofs.Common.{◌≡◌, ℕ, suc, ◌-◌, ◌*◌, ◌<◌, ◌≤◌, Bool, true, false, cond, not, ◌&&◌, eqb, leb, List, [], ◌∷◌, length, get_or, is_some, Some, None, Option, sym, refl, ap, ◌∙◌, subst, arith}
 use mathlib.Core.Path.{subst⁻¹}
 use mathlib.Core.Bool.{false≢true}
 use Rattle.std.specs.Str.{bytes_eq}
 use Rattle.std.proofs.lemmas.Slice.Eq.{bytes_eq-Decides}
-use Rattle.std.proofs.lemmas.Bool.{eqb-true, eq-eqb, ne_eqb, lt-leb, not_from_true, not-false, and_parts, and_from, le-ltb, cases_eq, cond_both, cond-true, cond-false, both_ways}
-use Rattle.octets.specs.Octets.{Bytes, Frame}
+use Rattle.std.proofs.lemmas.Bool.{eqb-true, eq-eqb, ne_eqb, lt-leb, not_from_true, not-false, and_parts, and_from, le-ltb, cond_both, cond-true, cond-false, both_ways}
+use Rattle.octets.specs.Octets.{Bytes}
 use Rattle.refusal.specs.declared.Refusal.{Refusal}
 use Rattle.sealing.specs.Pair.{paired}
-use Rattle.label.specs.Text.{Fields, Rules, text}
-use Rattle.label.specs.Read.{reads}
-use Rattle.law.specs.Kind.{Kind, Lawful, Keys, keys_of, idle, seal, unseal, check_of, half_taken, good}
-use Rattle.law.specs.Store.{Store, size, frame_at, Sound}
-use Rattle.law.specs.Labels.{blank, label_in, labelled, made_label, label_for}
-use Rattle.law.specs.Calls.{Call, make, mount, eject, read, write, start, step, status, Answer, refused, got, stepped, told, accepted, refused_by, Given}
+use Rattle.label.specs.Text.{Fields}
+use Rattle.law.specs.Kind.{Kind, Lawful, Keys, keys_of, seal, unseal, check_of, good}
+use Rattle.law.specs.Store.{Store, size, Sound}
+use Rattle.law.specs.Labels.{label_in, labelled, label_for}
+use Rattle.law.specs.Calls.{Call, make, mount, eject, read, write, start, step, status, got, told, accepted, refused_by, Given}
 use Rattle.law.specs.Checks.{checks, refusal, second_fits, second_checks}
-use Rattle.law.specs.Model.{Card, off, state_of, state_by, held, keys_for, is_over, after_step, step_label, cleared_to, kept_if, zeros, relabelled, resealed, Outcome, perform, decide, act, start_on, step_on, status_of, event_of, events}
-use Rattle.law.specs.History.{Event, History, content, content_by, steps, steps_by, new_pair, new_pair_by, in_change, in_change_by, pair, pair_by, second, pair_at, is_on, is_on_by, state, state_after, moved_after, Claimed, claim_by}
-use Rattle.law.specs.Law.{Spared, Labelled, Told, LabelTells, Gives, ReadsBack, Counted, Each, Fair}
+use Rattle.law.specs.Model.{Card, off, state_of, state_by, held, is_over, after_step, Outcome, perform, decide, act, start_on, step_on, event_of, events}
+use Rattle.law.specs.History.{History, content, content_by, steps, steps_by, new_pair, new_pair_by, in_change, in_change_by, pair, pair_by, second, is_on, is_on_by, state, state_after, moved_after, Claimed, claim_by}
+use Rattle.law.specs.Law.{Labelled, Told, Gives, ReadsBack, Counted, Each, Fair}
 use Rattle.law.specs.Runs.{AllGiven}
 use Rattle.law.proofs.Checks.{passed, all_pass}
 use Rattle.law.proofs.Sealing.{opens}

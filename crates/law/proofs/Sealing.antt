@@ -1,15 +1,14 @@
 -- What the keys of a pair of a lawful kind do: opening undoes sealing, and the check value is four bytes.
-use Rattle.std.proofs.Common.{◌≡◌, ℕ, zero, suc, ◌-◌, ◌*◌, ◌/◌, ◌<◌, Bool, true, false, ◌&&◌, ◌||◌, eqb, List, [], ◌∷◌, length, get_or, replicate, sym, refl, ap, ◌∙◌, subst, ap₂, inl, inr, arith, length-drop, length-take}
+use Rattle.std.proofs.Common.{◌≡◌, ℕ, zero, suc, ◌-◌, ◌*◌, ◌/◌, true, ◌||◌, eqb, List, [], ◌∷◌, length, get_or, replicate, sym, refl, ap, ◌∙◌, subst, inl, inr, arith, length-drop, length-take}
 use Rattle.std.proofs.lemmas.Bool.{eqb-true, and_parts, or_cases}
 use Rattle.octets.specs.Octets.{Bytes, Block, Frame}
 use Rattle.octets.proofs.Bytes.{take-bytes, drop-bytes}
 use Rattle.engine.specs.Kind.{Key}
-use Rattle.sealing.specs.Pair.{paired, data_key, tweak_key, check_value}
-use Rattle.sealing.specs.Xts.{xts}
+use Rattle.sealing.specs.Pair.{paired, data_key, tweak_key}
 use Rattle.sealing.proofs.Undo.{xts-undone}
 use Rattle.sealing.proofs.Same.{xts-same}
 use Rattle.label.specs.Text.{Four, KeySize}
-use Rattle.law.specs.Kind.{Kind, Lawful, Shared, Keys, keys_of, idle, seal, unseal, check_of, half_taken, good}
+use Rattle.law.specs.Kind.{Kind, Lawful, Keys, keys_of, seal, unseal, check_of, good}
 
 -- the sizes of a pair, one by one
 pub paired_cases : (P : ℕ → Type 0) → P 32 → P 48 → P 64 → (n : ℕ) → paired n ≡ true → P n

@@ -1,5 +1,5 @@
 -- What every list of calls on a card keeps, told of the calls, their answers and the stores.
-use Rattle.std.specs.Prelude.{◌≡◌, ℕ, suc, ◌-◌, Bool, true, false, cond, ◌⊎◌, List, [], ◌∷◌, ◌++◌, length, Some, None, ◌==◌, ◌≢◌}
+use Rattle.std.specs.Prelude.{◌≡◌, ℕ, suc, ◌-◌, true, false, cond, ◌⊎◌, List, [], ◌∷◌, ◌++◌, length, Some, None, ◌==◌, ◌≢◌}
 use Rattle.label.specs.Text.{Fields}
 use Rattle.label.specs.Read as label
 use Rattle.law.specs.Kind.{Kind, Shared, keys_of, seal, unseal}

@@ -5,7 +5,7 @@ use Rattle.law.specs.Store.{Store, size, Sized}
 use Rattle.law.specs.Calls.{Call, Given}
 use Rattle.law.specs.Model.{off, events}
 use Rattle.law.specs.History.{Event, History}
-use Rattle.law.specs.Law.{Each, RefusedExactly, LabelTells, ReadsBack, ChangeCounted, HostsAgree, HandedOver, Law}
+use Rattle.law.specs.Law.{Each, Law}
 
 abbrev pub AllGiven : List Call → Type 0
 AllGiven [] = Unit {0}

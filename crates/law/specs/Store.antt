@@ -1,6 +1,5 @@
 -- What a store tells: its frames, and which of them are worn.
 use Rattle.std.specs.Prelude.{◌≡◌, ℕ, zero, suc, ◌+◌, ◌<◌, ◌≤◌, Bool, false, cond, List, [], length, slice_index_or}
-use Rattle.octets.specs.Octets.{Frame}
 
 pub record Store : Type 0 where
   pub frames : List (List ℕ)

@@ -8,12 +8,12 @@ use lib.ListN.{length, take, get_or, set}
 use lib.Seq.{take_all}
 use Rattle.law.specs.Kind.{Kind, Lawful}
 use Rattle.law.specs.Store.{Store, Sized}
-use Rattle.law.specs.Calls.{Call, Answer, Given, left_by}
-use Rattle.law.specs.Model.{Card, off, act, events, card_after, Outcome}
+use Rattle.law.specs.Calls.{Given, left_by}
+use Rattle.law.specs.Model.{Card, off, act, events, Outcome}
 use Rattle.calls.specs.Turns.{call_in, answer_in, calls}
 use Rattle.calls.specs.declared.Turn.{Turn}
 use Rattle.law.proofs.Law.{every}
-use Rattle.play.specs.Played.{Ran, Played, BothPlayed}
+use Rattle.play.specs.Played.{Ran, BothPlayed}
 
 -- the first i turns, from the card k and the store s to k' and s'
 abbrev pub Stage : Kind → Card → Card → Store → Store → List Turn → List Turn → ℕ → Type 0

@@ -1,5 +1,5 @@
 -- What a list of turns on a card comes to, and the law of two lists on two new cards.
-use Rattle.std.specs.Prelude.{ℕ, List, ◌≡◌}
+use Rattle.std.specs.Prelude.{List, ◌≡◌}
 use Rattle.law.specs.Kind.{Kind}
 use Rattle.law.specs.Store.{Store}
 use Rattle.law.specs.Model.{Card, events, card_after}

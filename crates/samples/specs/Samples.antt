@@ -4,7 +4,7 @@ use Rattle.std.specs.List.{range_with_len}
 use Rattle.camellia.specs.Sbox.{s1, s2, s3, s4}
 use Rattle.camellia.specs.Functions.{P, F, FL, FLINV}
 use Rattle.camellia.specs.Keys.{key_r}
-use Rattle.camellia.specs.Cipher.{E, D}
+use Rattle.camellia.specs.Cipher.{E}
 use Rattle.sealing.specs.Pair.{data_key, tweak_key, check_value}
 use Rattle.sealing.specs.Xts.{unit, doubled}
 use Rattle.label.specs.Text.{Fields}

@@ -1,12 +1,12 @@
 -- What pairs of engines tell, joined from what each engine tells.
-use Rattle.std.proofs.Common.{◌≡◌, ℕ, Bool, true, false, not, List, [], ◌∷◌, replicate, Result, sym, refl, ap, ◌∙◌, subst, ap₂}
+use Rattle.std.proofs.Common.{◌≡◌, ℕ, Bool, true, false, not, List, [], ◌∷◌, Result, refl, ap, ◌∙◌}
 use Rattle.std.specs.Result.{result_err}
 use Rattle.refusal.specs.declared.Refusal.{Refusal}
 use Rattle.refusal.specs.declared.Refusal.TheVariants.{PairLength, KeyLength}
 use Rattle.sealing.specs.Pair.{data_key, tweak_key, check_value, pair_answer}
 use Rattle.sealing.specs.Xts.{xts}
 use Rattle.law.specs.Checks.{first_of}
-use Rattle.law.specs.Kind.{Kind, Keys, keys_of, idle, seal, unseal, check_of}
+use Rattle.law.specs.Kind.{Kind, Keys, keys_of, seal, unseal, check_of}
 
 pub keys_from : (M : Kind) (p : List ℕ) (e d t : List ℕ → List ℕ) → e ≡ M.cipher (data_key p) → d ≡ M.inverse (data_key p) → t ≡ M.cipher (tweak_key p)
     → record { enciphers = e; deciphers = d; tweaks = t } ≡ keys_of M p

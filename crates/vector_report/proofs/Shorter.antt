@@ -1,5 +1,5 @@
 -- What follows a group is shorter than what begins with it.
-use Rattle.std.proofs.Common.{ℕ, ◌<◌, List, ◌∷◌, length, codes, ap, arith, length-append}
+use Rattle.std.proofs.Common.{ℕ, ◌<◌, List, length, codes, ap, arith, length-append}
 use Rattle.text_lines.specs.Line.{assigned, line}
 use Rattle.text_lines.specs.Hex.{hex}
 use Rattle.vector_groups.specs.declared.group.Group.{Group}

@@ -1,4 +1,4 @@
-use Rattle.std.proofs.Common.{◌≡◌, ℕ, ◌%◌, ◌^◌, List, [], ◌∷◌, ◌++◌, length, get_or, refl, ap, ◌∙◌}
+use Rattle.std.proofs.Common.{◌≡◌, ℕ, ◌%◌, ◌^◌, List, [], ◌∷◌, ◌++◌, length, get_or, refl, ap}
 use Rattle.std.proofs.lemmas.Slice.Eq.{text_from_reads}
 use Rattle.camellia.specs.Sbox.{s1, s1table}
 use Rattle.camellia.specs.Functions.{P, PS, F, FL, FLINV}
@@ -10,7 +10,7 @@ use Rattle.text_lines.specs.Line.{assigned}
 use Rattle.label_lines.specs.Lines.{laid}
 use Rattle.label.specs.Text.{text}
 use Rattle.label.specs.Read.{kept, candidate, reads}
-use Rattle.samples.specs.Samples.{Samples, Substitutions, Halves, Complemented, Examples, rfc_middle}
+use Rattle.samples.specs.Samples.{Complemented, rfc_middle}
 use Rattle.samples.proofs.definitions_hold.Goals as goal
 
 sixteen : (s : List ℕ) → length s ≡ 16

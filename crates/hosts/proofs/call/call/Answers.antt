@@ -1,4 +1,4 @@
-use Rattle.std.proofs.Common.{◌≡◌, ℕ, ◌/◌, Bool, false, ◌&&◌, length, sym, ap, rules}
+use Rattle.std.proofs.Common.{◌≡◌, ◌/◌, Bool, false, ◌&&◌, length, sym, ap, rules}
 use Rattle.sealing.specs.Pair.{paired}
 use Rattle.hosts.specs.Calls.{returned, left, framed, accepted, under}
 use Rattle.hosts.proofs.Answers.{refused}

@@ -1,4 +1,4 @@
-use Rattle.std.proofs.Common.{◌≡◌, ℕ, ◌+◌, ◌-◌, ◌≤◌, Bool, true, false, List, sym, refl, ap, ◌∙◌, subst, ap₂, arith}
+use Rattle.std.proofs.Common.{◌≡◌, ℕ, ◌+◌, ◌-◌, ◌≤◌, Bool, true, false, List, sym, ap, ◌∙◌, ap₂, arith}
 use Rattle.law.specs.Store.{Store, unworn_to}
 use Rattle.law.specs.Model.{kept_if, cleared_to}
 use Rattle.sealed_store.specs.Told.{keys_in}

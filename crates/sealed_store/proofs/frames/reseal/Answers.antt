@@ -1,4 +1,4 @@
-use Rattle.std.proofs.Common.{◌≡◌, ℕ, List, [], get_or, ap}
+use Rattle.std.proofs.Common.{ℕ, List, [], get_or, ap}
 use Rattle.law.specs.Kind.{seal, unseal}
 use Rattle.law.specs.Store.{Store}
 use Rattle.sealed_store.specs.Told.{keys_in}

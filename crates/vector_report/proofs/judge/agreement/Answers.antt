@@ -1,5 +1,4 @@
 use Rattle.std.proofs.Common.{◌≡◌, ℕ, Bool, true, false, List, length, sym, refl, ap, ◌∙◌, subst, arith}
-use Rattle.vector_groups.specs.Text.{key_bytes}
 use Rattle.vector_report.proofs.Loads.{loads}
 use Rattle.vector_report.proofs.judge.agreement.Goals as goal
 use Rattle.vector_report.proofs.judge.agreement.Goals.{else-equal-via-then-equal+else-equal-2, else-equal-via-else-equal}
