@@ -1,5 +1,5 @@
 // A half as eight bytes, the most significant first.
-ghost use Rattle.std.specs.Prelude.{◌≡◌, ℕ};
+ghost use Rattle.std.specs.Prelude.{◌≡◌};
 ghost use Rattle.camellia.specs.Numbers.{◌⊕◌, half_at};
 ghost use Rattle.camellia.specs.Functions.{PS};
 ghost use Rattle.camellia_rounds.specs.Parts.{whole};

@@ -1,5 +1,5 @@
 // Bytes and numbers, the most significant byte first.
-ghost use Rattle.std.specs.Prelude.{◌≡◌, ℕ, ◌+◌, ◌≤◌, length};
+ghost use Rattle.std.specs.Prelude.{◌≡◌, ◌+◌, ◌≤◌, length};
 ghost use Rattle.camellia.specs.Numbers.{half_at, bytes8};
 ghost use Rattle.camellia.specs.Rounds.{st};
 ghost use Rattle.camellia.specs.Keys.{left_half, right_half, joined as joined_of};

@@ -1,7 +1,6 @@
 // The cipher under one key: load a key, encipher and decipher a block.
-ghost use Rattle.std.specs.Prelude.{◌≡◌, ℕ, ◌+◌, ◌≤◌, true, length, codes};
-ghost use Rattle.camellia.specs.Numbers.{half_at};
-ghost use Rattle.camellia.specs.Keys.{key_l, joined as joined_of, schedule};
+ghost use Rattle.std.specs.Prelude.{◌≡◌, true, length, codes};
+ghost use Rattle.camellia.specs.Keys.{schedule};
 ghost use Rattle.camellia.specs.Cipher.{to_state, to_bytes, E, D};
 ghost use Rattle.camellia.specs.Laws.{takes as takes_of};
 ghost use Rattle.camellia_rounds.specs.Told.{state_of, schedule_of, enciphers_of, deciphers_of};

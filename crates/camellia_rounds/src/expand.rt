@@ -1,5 +1,5 @@
 // The key schedule: K_A and K_B from K_L and K_R, and the subkeys that the tables take from the four.
-ghost use Rattle.std.specs.Prelude.{◌≡◌, ℕ, ◌+◌, ◌≤◌, length};
+ghost use Rattle.std.specs.Prelude.{◌≡◌, ◌≤◌, length};
 ghost use Rattle.camellia.specs.Keys.{mixed as mixed_of, material as material_of, layer_of, scheduled};
 ghost use Rattle.camellia.specs.Keys.{whitening18, layers18, whitening24, layers24};
 ghost use Rattle.camellia_rounds.specs.Told.{schedule_of};

@@ -1,5 +1,5 @@
 // FL and its inverse on the two 32-bit parts of a half.
-ghost use Rattle.std.specs.Prelude.{◌≡◌, ℕ};
+ghost use Rattle.std.specs.Prelude.{◌≡◌};
 ghost use Rattle.camellia_rounds.specs.Parts.{fl_of, fl_inverse_of};
 
 pub fn fl(x: (u32, u32), k: (u32, u32)) -> (u32, u32)

@@ -99,7 +99,8 @@ impl<H: Half> Halves<H> {
     }
 
     pub(crate) fn decrypted(self, k: &Schedule) -> Self
-        ensures { state_of H.value result ≡ encrypt_of (reversed (schedule_of k.now)) (state_of H.value self) }
+        ensures { state_of H.value result
+            ≡ encrypt_of (reversed (schedule_of k.now)) (state_of H.value self) }
     {
         let s = self.whitened(k.kw.kw3, k.kw.kw4).backward(k.layers());
         s.swapped().whitened(k.kw.kw1, k.kw.kw2)

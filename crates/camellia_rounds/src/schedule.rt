@@ -1,5 +1,5 @@
 // The key schedule: K_A and K_B from K_L and K_R, and the subkeys that the tables take from the four.
-ghost use Rattle.std.specs.Prelude.{◌≡◌, ℕ, ◌+◌, ◌≤◌, length};
+ghost use Rattle.std.specs.Prelude.{◌≡◌, ◌≤◌, length};
 
 use camellia::plan::{Layer, Whitening};
 

@@ -1,5 +1,5 @@
 // A half as two words, the left one its upper 32 bits.
-ghost use Rattle.std.specs.Prelude.{◌≡◌, ℕ};
+ghost use Rattle.std.specs.Prelude.{◌≡◌};
 ghost use Rattle.camellia_rounds.specs.Parts.{whole};
 ghost use Rattle.camellia_word.specs.Words.{rotated};
 

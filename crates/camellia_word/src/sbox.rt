@@ -1,5 +1,5 @@
 // S: a table for each substitution, and the substitution of a word's bytes.
-ghost use Rattle.std.specs.Prelude.{◌≡◌, ℕ};
+ghost use Rattle.std.specs.Prelude.{◌≡◌};
 ghost use Rattle.camellia_word.specs.Tables.{first, second, third, fourth, left_s, right_s};
 
 #[rattlefmt::skip]
