@@ -1,5 +1,5 @@
 // The layers on N blocks at a time, in place: the left halves in `a`, the right halves in `b`.
-ghost use Rattle.std.specs.Prelude.{◌≡◌, ℕ, [], ◌∷◌, length};
+ghost use Rattle.std.specs.Prelude.{[], ◌∷◌};
 ghost use Rattle.camellia.specs.Rounds.{run, backward as backward_of};
 ghost use Rattle.camellia.specs.Keys.{reversed};
 ghost use Rattle.camellia.specs.Cipher.{encrypt as encrypt_of};
@@ -11,7 +11,6 @@ use camellia_subkeys::keys::{FoldedKeys, Groups};
 use camellia_tables::half::{f, fl, fl_inverse};
 
 fn whiten<const N: usize>(a: &mut [u64; N], k: u64)
-    requires { length a.old ≡ N }
     ensures { Whitened N k a.old a.new }
 {
     for i in 0..N {
@@ -21,7 +20,6 @@ fn whiten<const N: usize>(a: &mut [u64; N], k: u64)
 
 // Two rounds leave the halves where they were.
 fn two<const N: usize>(a: &mut [u64; N], b: &mut [u64; N], k: u64, m: u64)
-    requires { (length a.old ≡ N) × (length b.old ≡ N) }
     ensures { Each N (run (Round k ∷ Round m ∷ [])) a.old b.old a.new b.new }
 {
     for i in 0..N {
@@ -33,7 +31,6 @@ fn two<const N: usize>(a: &mut [u64; N], b: &mut [u64; N], k: u64, m: u64)
 }
 
 fn fl_layer<const N: usize>(a: &mut [u64; N], b: &mut [u64; N], k: u64, m: u64)
-    requires { (length a.old ≡ N) × (length b.old ≡ N) }
     ensures { Each N (run (Fl k m ∷ [])) a.old b.old a.new b.new }
 {
     for i in 0..N {
@@ -43,7 +40,6 @@ fn fl_layer<const N: usize>(a: &mut [u64; N], b: &mut [u64; N], k: u64, m: u64)
 }
 
 fn six<const N: usize>(a: &mut [u64; N], b: &mut [u64; N], k: &[u64; 6])
-    requires { (length a.old ≡ N) × (length b.old ≡ N) }
     ensures { Each N (run (six_of k.now)) a.old b.old a.new b.new }
 {
     two(a, b, k[0], k[1]);
@@ -52,7 +48,6 @@ fn six<const N: usize>(a: &mut [u64; N], b: &mut [u64; N], k: &[u64; 6])
 }
 
 fn six_back<const N: usize>(a: &mut [u64; N], b: &mut [u64; N], k: &[u64; 6])
-    requires { (length a.old ≡ N) × (length b.old ≡ N) }
     ensures { Each N (run (backward_of (six_of k.now))) a.old b.old a.new b.new }
 {
     two(a, b, k[5], k[4]);
@@ -61,7 +56,6 @@ fn six_back<const N: usize>(a: &mut [u64; N], b: &mut [u64; N], k: &[u64; 6])
 }
 
 fn forward<const N: usize>(g: &Groups, a: &mut [u64; N], b: &mut [u64; N])
-    requires { (length a.old ≡ N) × (length b.old ≡ N) }
     ensures { Each N (run (layers_of g.now)) a.old b.old a.new b.new }
 {
     six(a, b, &g.rounds[0]);
@@ -77,7 +71,6 @@ fn forward<const N: usize>(g: &Groups, a: &mut [u64; N], b: &mut [u64; N])
 
 // The same layers from the last to the first; the two keys of an FL layer change places.
 fn backward<const N: usize>(g: &Groups, a: &mut [u64; N], b: &mut [u64; N])
-    requires { (length a.old ≡ N) × (length b.old ≡ N) }
     ensures { Each N (run (backward_of (layers_of g.now))) a.old b.old a.new b.new }
 {
     if g.four {
@@ -93,7 +86,6 @@ fn backward<const N: usize>(g: &Groups, a: &mut [u64; N], b: &mut [u64; N])
 
 // The halves change places at the end: the left halves come back in `b`.
 pub(crate) fn encrypt<const N: usize>(k: &FoldedKeys, a: &mut [u64; N], b: &mut [u64; N])
-    requires { (length a.old ≡ N) × (length b.old ≡ N) }
     ensures { Each N (encrypt_of (schedule_of k.now)) a.old b.old b.new a.new }
 {
     whiten(a, k.kw1);
@@ -102,7 +94,6 @@ pub(crate) fn encrypt<const N: usize>(k: &FoldedKeys, a: &mut [u64; N], b: &mut 
 }
 
 pub(crate) fn decrypt<const N: usize>(k: &FoldedKeys, a: &mut [u64; N], b: &mut [u64; N])
-    requires { (length a.old ≡ N) × (length b.old ≡ N) }
     ensures { Each N (encrypt_of (reversed (schedule_of k.now))) a.old b.old b.new a.new }
 {
     whiten(a, k.kw3);

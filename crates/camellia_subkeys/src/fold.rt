@@ -1,6 +1,6 @@
 // The fold of two whitening keys. An offset on one half moves through the layers: a round that reads that half takes it in
 // its key, and FL turns it into another offset. So kw2 goes down into kw3 and kw4 up into kw1, and a block takes only these.
-ghost use Rattle.std.specs.Prelude.{◌≡◌, ℕ};
+ghost use Rattle.std.specs.Prelude.{◌≡◌};
 ghost use Rattle.camellia_fold.specs.Fold.{through_fl_inverse};
 ghost use Rattle.camellia_subkeys.specs.Folded.{across_of, down_of, up_of, woven_of, woven_groups, woven_keys, folded_of};
 

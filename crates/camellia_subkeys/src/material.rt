@@ -1,5 +1,5 @@
 // K_A and K_B from K_L and K_R.
-ghost use Rattle.std.specs.Prelude.{◌≡◌, ℕ};
+ghost use Rattle.std.specs.Prelude.{◌≡◌};
 ghost use Rattle.camellia.specs.Keys.{mixed as mixed_of, material as material_of};
 ghost use Rattle.camellia_subkeys.specs.Slots.{without_kb};
 

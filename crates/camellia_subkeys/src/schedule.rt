@@ -1,5 +1,5 @@
 // The folded subkeys of a key. Places are constants, which the compiler computes away.
-ghost use Rattle.std.specs.Prelude.{◌≡◌, ℕ};
+ghost use Rattle.std.specs.Prelude.{◌≡◌};
 ghost use Rattle.camellia.specs.Keys.{material as material_of, scheduled, whitening18, layers18, whitening24, layers24};
 ghost use Rattle.camellia_fold.specs.Fold.{fold};
 ghost use Rattle.camellia_subkeys.specs.Groups.{schedule_of};

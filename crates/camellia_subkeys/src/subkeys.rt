@@ -1,5 +1,5 @@
 // The subkeys that the tables take from the four sources.
-ghost use Rattle.std.specs.Prelude.{◌≡◌, ℕ, ◌+◌, ◌<◌, ◌≤◌, length};
+ghost use Rattle.std.specs.Prelude.{◌≡◌, ◌+◌, ◌<◌, ◌≤◌, length};
 ghost use Rattle.camellia_subkeys.specs.Slots.{slots_of, key_at, pair_at, six_at, whitening_at};
 
 use crate::slots::slots;

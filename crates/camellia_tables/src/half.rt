@@ -1,4 +1,4 @@
-ghost use Rattle.std.specs.Prelude.{◌≡◌, ℕ, ◌%◌, ◌<◌};
+ghost use Rattle.std.specs.Prelude.{◌≡◌, ◌%◌, ◌<◌};
 ghost use Rattle.camellia.specs.Functions.{F, FL, FLINV};
 ghost use Rattle.camellia_rounds.specs.Parts.{whole as whole_of, fl_of, fl_inverse_of};
 ghost use Rattle.camellia_tables.specs.Columns.{spread, sums as sums_of, parts_of};
