@@ -1,6 +1,6 @@
 -- A label's text fills a frame with bytes.
 use Rattle.std.proofs.Common.{◌≡◌, ℕ, zero, suc, ◌+◌, ◌/◌, ◌%◌, ◌<◌, true, ltb, List, [], ◌∷◌, length, replicate, Some, None, codes, Option, refl, arith}
-use Rattle.std.specs.List.{AllByRecursion as All, list_all}
+use Rattle.std.specs.List.{AllByRecursion, list_all}
 use Rattle.std.proofs.ByRecursion.{All-append, All-push, All-from_get_or}
 use Rattle.octets.specs.Octets.{Bytes}
 use Rattle.engine.specs.Kind.{EightLetters}
@@ -18,7 +18,7 @@ unfolding text
 length-text l z = (placed (values l) (sized-values l z)).long
 
 abbrev Small : List ℕ → Type 0
-Small = All (λ x. x < 256)
+Small = AllByRecursion (λ x. x < 256)
 
 small-digit : (n : ℕ) → n < 16 → digit n < 256
 small-digit n h = let d = digit-is n h in grind arith

@@ -1,7 +1,7 @@
 -- The tests of the rules decide them.
 use Rattle.std.proofs.Common.{◌≡◌, ℕ, zero, suc, ◌-◌, ◌<◌, ◌≤◌, Bool, true, false, ◌&&◌, eqb, ltb, leb, List, [], ◌∷◌, length, get_or, Some, None, Decides, Option, sym, refl, ◌∙◌, arith}
 use Rattle.std.specs.Char.{is_ascii_lowercase}
-use Rattle.std.specs.List.{AllByRecursion as All, list_all}
+use Rattle.std.specs.List.{AllByRecursion, list_all}
 use Rattle.std.proofs.lemmas.Bool.Decides.{Decides-and, Decides-like, Decides-eqb, Decides-ltb, same_from_decides}
 use Rattle.std.proofs.ByRecursion.{Decides-by_and, All-get_or, All-from_get_or}
 use Rattle.std.proofs.lemmas.Bool.{and_from, leb-true, le-leb, false≢true, cond-true, cond-false}
@@ -18,7 +18,7 @@ decides_leb a b = (leb-true a b, le-leb a b)
 
 -- a test of each element, where the count is tested too
 counted : (count : ℕ) (p : ℕ → Bool) (P : ℕ → Type 0) → ((x : ℕ) → Decides (p x) (P x)) → (s : List ℕ)
-    → Decides (eqb (length s) count && list_all p s) ((length s ≡ count) × All P s)
+    → Decides (eqb (length s) count && list_all p s) ((length s ≡ count) × AllByRecursion P s)
 counted count p P each s =
     Decides-and (eqb (length s) count) (list_all p s) (Decides-eqb (length s) count)
     (Decides-by_and p P (list_all p) each refl (λ x xs. refl) s)
@@ -38,11 +38,11 @@ not-lettered name i l none =
     ((λ e. absurd (false≢true e)), (λ h. absurd (false≢true (none ∙ lower (h.letters i l)))))
     (lettered_decides name)
 
-pub small_decides : (s : List ℕ) → Decides (list_all (λ x. ltb x 256) s) (All (λ x. x < 256) s)
+pub small_decides : (s : List ℕ) → Decides (list_all (λ x. ltb x 256) s) (AllByRecursion (λ x. x < 256) s)
 small_decides = Decides-by_and (λ x. ltb x 256) (λ x. x < 256) (list_all (λ x. ltb x 256)) (λ x. Decides-ltb x 256) refl (λ x xs. refl)
 
 -- past the end of a list its elements read as 0
-pub small-get_or : (s : List ℕ) → All (λ x. x < 256) s → Bytes s
+pub small-get_or : (s : List ℕ) → AllByRecursion (λ x. x < 256) s → Bytes s
 small-get_or [] h i = omega arith
 small-get_or (x ∷ s) h zero = h.0
 small-get_or (x ∷ s) h (suc i) = small-get_or s h.1 i

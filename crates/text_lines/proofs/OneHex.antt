@@ -2,7 +2,7 @@
 use Rattle.std.proofs.Common.{◌≡◌, ℕ, ◌+◌, ◌*◌, ◌/◌, ◌%◌, ◌<◌, cond, ltb, ◌≢◌, List, [], ◌∷◌, ◌++◌, length, get_or, refl, ap, arith}
 use Rattle.std.specs.Char.{digit_value}
 use Rattle.std.specs.Str.Parse.{digits_value}
-use Rattle.std.specs.List.{AllByRecursion as All}
+use Rattle.std.specs.List.{AllByRecursion}
 use Rattle.std.proofs.lemmas.Slice.Eq.{text_from_reads}
 use Rattle.std.proofs.lemmas.Bool.{cond_both, ltb-true, ltb-false}
 use Rattle.std.proofs.lemmas.List.FromFn.{get_or-map-range_with_len}
@@ -18,7 +18,7 @@ same-digit : (m n : ℕ) → m < 16 → n < 16 → digit m ≡ digit n → m ≡
 same-digit m n h k e = let a = digit-is m h in let b = digit-is n k in grind arith
 
 abbrev Small : List ℕ → Type 0
-Small = All (λ b. b < 256)
+Small = AllByRecursion (λ b. b < 256)
 
 -- the digits of four bytes, pair by pair
 pub hex-four : (x : List ℕ) → length x ≡ 4

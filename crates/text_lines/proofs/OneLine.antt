@@ -1,6 +1,6 @@
 -- A line is a line in one way.
 use Rattle.std.proofs.Common.{◌≡◌, ℕ, ◌≢◌, List, [], ◌∷◌, ◌++◌, length, take, drop, sym, refl, ap, ◌∙◌}
-use Rattle.std.specs.List.{AllByRecursion as All}
+use Rattle.std.specs.List.{AllByRecursion}
 use Rattle.std.proofs.lemmas.List.{append_cancel_left, take_at, drop_at}
 use Rattle.text_lines.specs.Line.{assigned, line}
 
@@ -22,7 +22,7 @@ same-wide-line name v w t u l e =
     (sym (take_at v (10 ∷ t) n l) ∙ ap (take n) f ∙ take_at w (10 ∷ u) n refl, cc)
 
 abbrev pub Unbroken : List ℕ → Type 0
-Unbroken = All (λ b. b ≢ 10)
+Unbroken = AllByRecursion (λ b. b ≢ 10)
 
 same_unbroken : (v w t u : List ℕ) → Unbroken v → Unbroken w → v ++ (10 ∷ t) ≡ w ++ (10 ∷ u) → (v ≡ w) × (t ≡ u)
 same_unbroken [] [] t u p q e = (refl, cc)

@@ -1,13 +1,13 @@
 -- How far a reader of hexadecimal has come: the digits of the first i bytes are read, and the rest is left.
 use Rattle.std.proofs.Common.{◌≡◌, ℕ, ◌+◌, ◌-◌, ◌<◌, ◌≤◌, List, [], ◌∷◌, ◌++◌, length, get_or, take, drop, set, sym, refl, ap, ◌∙◌, arith}
-use Rattle.std.specs.List.{AllByRecursion as All}
+use Rattle.std.specs.List.{AllByRecursion}
 use Rattle.std.proofs.lemmas.List.{append_assoc, append-nil, at_drop_all, at_drop_more, flat_map_more, length-set, nil_from_length, take_all, take_more_set, take_rest}
 use Rattle.std.proofs.ByRecursion.{All-get_or, All-push}
 use Rattle.text_lines.specs.Hex.{pair, hex, PairOf, HexOf}
 
 pub record Progress (digits rest bytes : List ℕ) (i count : ℕ) : Type 0 where
   pub counted : length bytes ≡ count
-  pub small : All (λ b. b < 256) (take i bytes)
+  pub small : AllByRecursion (λ b. b < 256) (take i bytes)
   pub split : digits ≡ hex (take i bytes) ++ rest
   pub left : (others : List ℕ) → HexOf digits count others → rest ≡ hex (drop i others)
 

@@ -1,7 +1,7 @@
 -- Lower-case hexadecimal: two digits for each byte, the more significant first.
 use Rattle.std.specs.Prelude.{◌≡◌, ℕ, ◌/◌, ◌%◌, ◌<◌, List, [], ◌∷◌, length, codes, slice_index}
 use Rattle.std.specs.Str.Parse.{digits_value}
-use Rattle.std.specs.List.{flat_map, AllByRecursion as All}
+use Rattle.std.specs.List.{flat_map, AllByRecursion}
 use Rattle.text_lines.specs.Line.{line}
 
 abbrev pub digit : ℕ → ℕ
@@ -22,7 +22,7 @@ unhex [] = []
 -- so many bytes
 pub record Bytes (count : ℕ) (bytes : List ℕ) : Type 0 where
   pub counted : length bytes ≡ count
-  pub small : All (λ b. b < 256) bytes
+  pub small : AllByRecursion (λ b. b < 256) bytes
 
 -- the character is the digit n
 pub record DigitOf (character n : ℕ) : Type 0 where
