@@ -23,13 +23,13 @@ if [ ${#missing[@]} -ne 0 ]; then
 fi
 
 # Our archives are built in a copy of the repository, with bench/calls.rt.in as one crate more: bench_calls, which has what hosts uses.
-repo=target/bench/repo
+repo=${TMPDIR:-/tmp}/savecard_bench # outside the checkout, where rt ci wants no other crates
 calls=$repo/crates/bench_calls/out/libbench_calls.a
 archive=${1:-$repo/crates/hosts/out/libhosts.a}
 if [ ! -f "$calls" ] || [ ! -f "$archive" ] ||
     [ -n "$(find crates crates.txt bench/calls.rt.in \( -path '*/must-fail' -o -name out \) -prune -o -newer "$repo/copied" -print -quit)" ]; then
     rm -rf "$repo"
-    mkdir -p "$repo"
+    mkdir -p "$repo" target/bench
     touch "$repo/copied"
     # with what is proved already, which need not be proved again
     cp -r crates crates.txt "$repo/"
