@@ -7,7 +7,7 @@ use store::flat::FlatImage;
 const FRAMES: usize = 16;
 
 // A dump of blank frames, of which 3 and 12 are worn.
-pub fn blank(heap: Global) -> Result<Dump, AllocError> {
+pub(crate) fn blank(heap: Global) -> Result<Dump, AllocError> {
     let mut dump = Dump::new(FlatImage::new(filled(heap, FRAMES * 128, 0)?));
     let _ = dump.mark(3);
     let _ = dump.mark(12);
@@ -15,7 +15,7 @@ pub fn blank(heap: Global) -> Result<Dump, AllocError> {
 }
 
 // The same frames in an image of one frame more.
-pub fn grown(dump: Dump) -> Result<FlatImage, AllocError> {
+pub(crate) fn grown(dump: Dump) -> Result<FlatImage, AllocError> {
     let mut bytes = dump.into_image().into_bytes();
     for _ in 0..128 {
         bytes.push(0)?;
@@ -24,7 +24,7 @@ pub fn grown(dump: Dump) -> Result<FlatImage, AllocError> {
 }
 
 // Made under the old pair, written, and ejected with seven of fifteen frames moved.
-pub fn at_home(heap: Global) -> Result<Vec<Turn>, AllocError> {
+pub(crate) fn at_home(heap: Global) -> Result<Vec<Turn>, AllocError> {
     let mut turns = Vec::new(heap);
     add(&mut turns, Request::Status)?;
     add(&mut turns, Request::Eject)?;
@@ -50,7 +50,7 @@ fn refused(turns: &mut Vec<Turn>, heap: Global) -> Result<(), AllocError> {
 }
 
 // Mounted with both pairs, at the third try, and written on both sides of the mark; then the change goes on to its end.
-pub fn abroad(heap: Global) -> Result<Vec<Turn>, AllocError> {
+pub(crate) fn abroad(heap: Global) -> Result<Vec<Turn>, AllocError> {
     let mut turns = Vec::new(heap);
     add(&mut turns, Request::Mount(old(heap)?, none(heap)))?;
     add(&mut turns, Request::Mount(new(heap)?, old(heap)?))?;
@@ -67,7 +67,7 @@ pub fn abroad(heap: Global) -> Result<Vec<Turn>, AllocError> {
 }
 
 // A store with another number of frames than the label has.
-pub fn longer(heap: Global) -> Result<Vec<Turn>, AllocError> {
+pub(crate) fn longer(heap: Global) -> Result<Vec<Turn>, AllocError> {
     let mut turns = Vec::new(heap);
     add(&mut turns, Request::Mount(new(heap)?, none(heap)))?;
     Ok(turns)

@@ -4,18 +4,18 @@ use refusal::Refusal;
 use std::alloc::{AllocError, Global};
 
 #[derive(Drop)]
-pub struct Report {
+pub(crate) struct Report {
     calls: u64,
     alike: u64,
 }
 
 impl Report {
-    pub fn new() -> Self {
+    pub(crate) fn new() -> Self {
         Report { calls: 0, alike: 0 }
     }
 
     // The answers of the first host, and whether the second gave the same.
-    pub fn print(
+    pub(crate) fn print(
         &mut self,
         rt: &HostRuntime,
         first: &[Turn],
@@ -34,7 +34,7 @@ impl Report {
         Ok(())
     }
 
-    pub fn close(&self, rt: &HostRuntime) -> anyhow::Result<()> {
+    pub(crate) fn close(&self, rt: &HostRuntime) -> anyhow::Result<()> {
         println!(rt; "calls={} alike={}", self.calls, self.alike)?;
         Ok(())
     }
