@@ -23,13 +23,15 @@ if [ ${#missing[@]} -ne 0 ]; then
 fi
 
 # Our archives are built in a copy of the repository, with bench/calls.rt.in as one crate more: bench_calls, which has what hosts uses.
-repo=${TMPDIR:-/tmp}/savecard_bench # outside the checkout, where rt ci wants no other crates
+# It stands outside the checkout, where rt ci wants no other crates, under the checkout's own name.
+repo=${TMPDIR:-/tmp}/savecard_bench_$(pwd | cksum | cut -d ' ' -f 1)
 calls=$repo/crates/bench_calls/out/libbench_calls.a
 archive=${1:-$repo/crates/hosts/out/libhosts.a}
+mkdir -p target/bench
 if [ ! -f "$calls" ] || [ ! -f "$archive" ] ||
     [ -n "$(find crates crates.txt bench/calls.rt.in \( -path '*/must-fail' -o -name out \) -prune -o -newer "$repo/copied" -print -quit)" ]; then
     rm -rf "$repo"
-    mkdir -p "$repo" target/bench
+    mkdir -p "$repo"
     touch "$repo/copied"
     # with what is proved already, which need not be proved again
     cp -r crates crates.txt "$repo/"

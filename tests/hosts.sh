@@ -68,7 +68,7 @@ if gcc "${flags[@]}" "$build/headers.c" -o "$build/headers" >/dev/null 2>&1; the
     link() { gcc "$1" "$archive" -o "$2"; }
 else
     # Rattle's clang comes without C's headers: these declare what the programs here use
-    kit=$(dirname "$(dirname "$(rt doc)")")
+    kit=$(dirname "$(rt doc)")
     mkdir "$build/include" || exit 1
     cat >"$build/include/stddef.h" <<'END'
 #pragma once

@@ -5,11 +5,11 @@ use Rattle.std.proofs.lemmas.Bool.{cond_both}
 use Rattle.std.proofs.lemmas.Bool.Decides.{nat_tests}
 use Rattle.store.specs.Worn.{among, below, marked}
 
-pub among-past : (count : ℕ) (ms : List ℕ) (n : ℕ) → below count ms ≡ true → count ≤ n → among ms n ≡ false
-among-past count [] n b le = refl
-among-past count (m ∷ ms) n b le =
+pub among_past : (count : ℕ) (ms : List ℕ) (n : ℕ) → below count ms ≡ true → count ≤ n → among ms n ≡ false
+among_past count [] n b le = refl
+among_past count (m ∷ ms) n b le =
     let tail : below count ms ≡ true = grind (arith, nat_tests) in
-    let e = among-past count ms n tail le in
+    let e = among_past count ms n tail le in
     grind (arith, nat_tests)
 
 pub below_push : (count : ℕ) (ms : List ℕ) (n : ℕ) → below count ms ≡ true → n < count → below count (ms ++ n ∷ []) ≡ true

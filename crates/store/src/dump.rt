@@ -6,7 +6,7 @@ ghost use Rattle.store.specs.Worn.{among, below, mark_answer, marked};
 ghost use Rattle.store.specs.Slots;
 ghost use Rattle.std.proofs.Common.{arith};
 ghost use Rattle.store.specs.Slots.{length-frames_in};
-ghost use Rattle.store.specs.WornLemmas.{among-past};
+ghost use Rattle.store.specs.WornLemmas.{among_past};
 
 use crate::Store;
 use crate::flat::FlatImage;
@@ -95,7 +95,7 @@ impl Store for Dump {
 
     ghost present = { λ s n h.
         let l = length-frames_in in_order s.image.bytes.items in
-        among-past (frame_count (length s.image.bytes.items)) (take s.used s.marks) n s.present (omega arith) };
+        among_past (frame_count (length s.image.bytes.items)) (take s.used s.marks) n s.present (omega arith) };
 
     fn count(&self) -> u64 {
         self.image.count()
