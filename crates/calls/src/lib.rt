@@ -56,7 +56,7 @@ pub enum Request {
     Status,
 }
 
-// What an accepted read gives is left in the request's buffer.
+// What an accepted read gives is left in the buffer that came with it.
 #[derive(Clone, Copy, PartialEq, Eq, Debug)]
 pub enum Reply {
     Refused(Refusal),
