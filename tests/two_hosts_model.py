@@ -1,6 +1,6 @@
 #!/usr/bin/env python3
 """What the program two_hosts has to print, by a model of a card that knows no cipher: a sealed frame is a record of its number,
-the pair and the bytes. Written from docs/LAW.md, and not from the code. Writes to standard output; crates/two_hosts/stdout is that."""
+the pair and the bytes. It follows docs/LAW.md and shares no text with the code. Writes to standard output; crates/two_hosts/stdout is that."""
 
 FRAME = 128
 OLD, NEW = tuple(range(32)), tuple(range(32, 64))
