@@ -2,7 +2,7 @@
 ghost use Rattle.camellia.specs.Keys.{reversed};
 ghost use Rattle.camellia.specs.Cipher.{encrypt as encrypt_of};
 ghost use Rattle.std.specs.Prelude.{◌≡◌};
-ghost use Rattle.camellia.specs.Rounds.{run, step as step_of, swapped as swapped_of, whitened as whitened_of, turned, backward as backward_of};
+ghost use Rattle.camellia.specs.Rounds.{st, run, step as step_of, swapped as swapped_of, whitened as whitened_of, turned, backward as backward_of};
 ghost use Rattle.camellia.specs.declared.plan.Layer.TheVariants.{Round, Fl};
 ghost use Rattle.camellia_rounds.specs.Told.{state_of, schedule_of};
 
@@ -14,6 +14,25 @@ use camellia::plan::Layer;
 pub struct Halves<H> {
     pub left: H,
     pub right: H,
+}
+
+impl<H: Half> From<(u64, u64)> for Halves<H> {
+    ghost from_gives = { λ x s. state_of H.value s ≡ st x.0 x.1 };
+
+    fn from(halves: (u64, u64)) -> Self {
+        Halves {
+            left: H::from(halves.0),
+            right: H::from(halves.1),
+        }
+    }
+}
+
+impl<H: Half> From<Halves<H>> for (u64, u64) {
+    ghost from_gives = { λ s x. st x.0 x.1 ≡ state_of H.value s };
+
+    fn from(s: Halves<H>) -> Self {
+        (s.left.into(), s.right.into())
+    }
 }
 
 impl<H: Half> Halves<H> {
@@ -30,8 +49,8 @@ impl<H: Half> Halves<H> {
         ensures { state_of H.value result ≡ whitened_of a b (state_of H.value self) }
     {
         Halves {
-            left: self.left.xor(H::from_number(a)),
-            right: self.right.xor(H::from_number(b)),
+            left: self.left.xor(H::from(a)),
+            right: self.right.xor(H::from(b)),
         }
     }
 
@@ -39,7 +58,7 @@ impl<H: Half> Halves<H> {
         ensures { state_of H.value result ≡ step_of (Round k) (state_of H.value self) }
     {
         Halves {
-            left: self.right.xor(self.left.f(H::from_number(k))),
+            left: self.right.xor(self.left.f(H::from(k))),
             right: self.left,
         }
     }
@@ -48,8 +67,8 @@ impl<H: Half> Halves<H> {
         ensures { state_of H.value result ≡ step_of (Fl a b) (state_of H.value self) }
     {
         Halves {
-            left: self.left.fl(H::from_number(a)),
-            right: self.right.fl_inverse(H::from_number(b)),
+            left: self.left.fl(H::from(a)),
+            right: self.right.fl_inverse(H::from(b)),
         }
     }
 
