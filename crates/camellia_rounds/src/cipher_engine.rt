@@ -1,5 +1,5 @@
 // The cipher under one key: load a key, encipher and decipher a block.
-ghost use Rattle.std.specs.Prelude.{codes};
+ghost use Rattle.std.specs.Prelude.{[], ◌∷◌, codes};
 ghost use Rattle.camellia.specs.Cipher.{E, D};
 ghost use Rattle.camellia.specs.Laws.{takes as takes_of};
 ghost use Rattle.camellia_rounds.specs.Told.{enciphers_of, deciphers_of};
@@ -17,17 +17,14 @@ use engine::Engine;
 use refusal::Refusal;
 use std::marker::PhantomData;
 
-// Read through constants of the module: of an associated constant of a generic impl a proof knows no value.
-const CIPHER_NAME: [u8; 8] = *b"camellia";
-
-const LENGTHS: [usize; 3] = [16, 24, 32];
-
 impl<H: Half> Engine for Camellia<H> {
-    const NAME: [u8; 8] = CIPHER_NAME;
+    ghost NAME = { codes "camellia" };
 
-    const KEY_LENGTHS: [usize; 3] = LENGTHS;
+    const NAME: [u8; 8] = *b"camellia";
 
-    ghost name = { codes "camellia" };
+    ghost KEY_LENGTHS = { 16 ∷ 24 ∷ 32 ∷ [] };
+
+    const KEY_LENGTHS: [usize; 3] = [16, 24, 32];
 
     ghost takes = { takes_of };
 
@@ -41,6 +38,8 @@ impl<H: Half> Engine for Camellia<H> {
 
     ghost lettered = { Prim.search rules };
 
+    ghost listed = { Prim.search rules };
+
     ghost sixteen = { Prim.search rules };
 
     ghost undone = { (Whole.undone).forth };
@@ -50,14 +49,6 @@ impl<H: Half> Engine for Camellia<H> {
     ghost enciphered_blocks = { sized.enciphers };
 
     ghost deciphered_blocks = { sized.deciphers };
-
-    fn cipher_name() -> [u8; 8] {
-        CIPHER_NAME
-    }
-
-    fn accepts(len: usize) -> bool {
-        len == LENGTHS[0] || len == LENGTHS[1] || len == LENGTHS[2]
-    }
 
     fn new() -> Self {
         Camellia {

@@ -9,6 +9,6 @@ pub returns : goal.returns
 returns g c =
     let zero : schedule_of c.of.result ≡ schedule (replicate 16 0) = c.of.ensures ∙ sym (schedule_16 (replicate 16 0) refl) in
     record {
-      enciphers = λ i. enciphered (zero i) ;
-      deciphers = λ i. deciphered (zero i) ;
+      enciphers = λ i. enciphered (zero i);
+      deciphers = λ i. deciphered (zero i);
     }
