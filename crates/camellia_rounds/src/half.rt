@@ -1,6 +1,6 @@
 ghost use Rattle.std.specs.Prelude.{◌≡◌, ℕ};
 ghost use Rattle.camellia.specs.Numbers.{◌⊕◌};
-ghost use Rattle.camellia.specs.Functions.{F, FL, FLINV};
+ghost use Rattle.camellia.specs.Functions.{PS, F, FL, FLINV};
 
 use crate::parts::{fl, fl_inverse};
 
@@ -9,15 +9,26 @@ pub trait Half: Copy + From<u64> + Into<u64> {
     // the number that a half is
     ghost value: { Self → ℕ };
 
-    fn xor(self, other: Self) -> Self
-        ensures { value result ≡ value self ⊕ value other };
-
-    fn f(self, key: Self) -> Self
-        ensures { value result ≡ F (value self) (value key) };
+    // S on each byte, and then P
+    fn ps(self) -> Self
+        ensures { value result ≡ PS (value self) };
 
     ghost made: { (x : ℕ) (s : Self) → Self.from_gives x s → value s ≡ x };
 
     ghost told: { (s : Self) (x : ℕ) → Self.converts s x → x ≡ value s };
+
+    final fn xor(self, other: Self) -> Self
+        ensures { value result ≡ value self ⊕ value other }
+    {
+        Self::from(self.into() ^ other.into())
+    }
+
+    #[tactic(auto, unfolding(camellia::specs::Functions::F))]
+    final fn f(self, key: Self) -> Self
+        ensures { value result ≡ F (value self) (value key) }
+    {
+        self.xor(key).ps()
+    }
 
     final fn fl(self, key: Self) -> Self
         ensures { value result ≡ FL (value self) (value key) }

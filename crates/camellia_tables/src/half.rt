@@ -55,12 +55,8 @@ impl Half for TableHalf {
 
     ghost told = { Prim.search rules };
 
-    fn xor(self, other: Self) -> Self {
-        TableHalf(self.0 ^ other.0)
-    }
-
-    fn f(self, key: Self) -> Self {
-        TableHalf(sums(self.0 ^ key.0))
+    fn ps(self) -> Self {
+        TableHalf(sums(self.0))
     }
 }
 

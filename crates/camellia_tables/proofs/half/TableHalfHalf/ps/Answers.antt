@@ -1,14 +1,14 @@
-use Rattle.std.proofs.Common.{ℕ, ◌/◌, ◌%◌, ◌^◌, ◌∙◌, bit_xor}
+use Rattle.std.proofs.Common.{ℕ, ◌/◌, ◌%◌, ◌^◌, ◌∙◌}
 use Rattle.camellia.specs.Sbox.{s1, s2, s3, s4, s1table}
-use Rattle.camellia.specs.Functions.{F, PS}
+use Rattle.camellia.specs.Functions.{PS}
 use Rattle.camellia.proofs.Range.{s1-lt, s2-lt, s3-lt, s4-lt}
 use Rattle.camellia_tables.proofs.Sums.{columns-P}
-use Rattle.camellia_tables.proofs.half.TableHalfHalf.f.Goals as goal
+use Rattle.camellia_tables.proofs.half.TableHalfHalf.ps.Goals as goal
 
 pub returns : goal.returns
-unfolding F PS s1 s1table
+unfolding PS s1 s1table
 returns c =
-    let y : ℕ = bit_xor c.args.self.0 c.args.key.0 in
+    let y : ℕ = c.args.self.0 in
     let b1 : ℕ = y / 2 ^ 56 % 256 in
     let b2 : ℕ = y / 2 ^ 48 % 256 in
     let b3 : ℕ = y / 2 ^ 40 % 256 in
