@@ -1,3 +1,4 @@
 mod Runs
 mod ByParts
 mod Read
+mod Mapped

@@ -1,14 +1,14 @@
-// The key schedule: K_A and K_B from K_L and K_R, and the subkeys that the tables take from the four.
-ghost use Rattle.std.specs.Prelude.{◌≡◌, ◌≤◌, length};
-ghost use Rattle.camellia.specs.Keys.{layer_of, scheduled};
+// The subkeys that the tables take from the four sources.
+ghost use Rattle.std.specs.Prelude.{◌≡◌, ◌≤◌, map};
+ghost use Rattle.camellia.specs.Keys.{layer_of, whitening_of};
 ghost use Rattle.camellia_rounds.specs.Sources.{schedule_from};
-ghost use Rattle.camellia_rounds.specs.Told.{schedule_of};
+ghost use Rattle.camellia_rounds.specs.Told.{layers_of, schedule_of};
 
 use crate::half::Half;
-use crate::schedule::Schedule;
+use crate::schedule::{Layers, Schedule};
 use crate::sources::Sources;
 use crate::subkey::subkey;
-use crate::tables;
+use crate::tables::{LAYERS_18, LAYERS_24, WHITENING_18, WHITENING_24};
 use camellia::plan::{Layer, Material, Slot, Whitening};
 
 fn layer(m: &Material, slots: Layer<Slot>) -> Layer<u64>
@@ -20,33 +20,21 @@ fn layer(m: &Material, slots: Layer<Slot>) -> Layer<u64>
     }
 }
 
-impl Schedule {
-    // The key's layers.
-    pub(crate) fn layers(&self) -> &[Layer<u64>]
-        ensures { result.now ≡ (schedule_of self.now).layers }
-    {
-        &self.layers[0..self.count]
-    }
+fn layers<const N: usize>(m: &Material, slots: &[Layer<Slot>; N]) -> [Layer<u64>; N]
+    requires { N ≤ 27 }
+    ensures { result ≡ map (layer_of m.now) slots.now }
+{
+    slots.map(|slots| layer(m, slots))
 }
 
-fn expand(m: &Material, whitening: &Whitening<Slot>, slots: &[Layer<Slot>]) -> Schedule
-    requires { length slots.now ≤ 27 }
-    ensures { schedule_of result ≡ scheduled m.now whitening.now slots.now }
+fn whitening(m: &Material, slots: Whitening<Slot>) -> Whitening<u64>
+    ensures { result ≡ whitening_of m.now slots }
 {
-    let mut layers = [Layer::Round(0); 27];
-    for (i, slot) in slots.iter().enumerate() {
-        layers[i] = layer(m, *slot);
-    }
-    let kw = Whitening {
-        kw1: subkey(m, whitening.kw1),
-        kw2: subkey(m, whitening.kw2),
-        kw3: subkey(m, whitening.kw3),
-        kw4: subkey(m, whitening.kw4),
-    };
-    Schedule {
-        kw,
-        layers,
-        count: slots.len(),
+    Whitening {
+        kw1: subkey(m, slots.kw1),
+        kw2: subkey(m, slots.kw2),
+        kw3: subkey(m, slots.kw3),
+        kw4: subkey(m, slots.kw4),
     }
 }
 
@@ -56,8 +44,25 @@ impl Schedule {
     {
         let m = sources.material::<H>();
         match sources {
-            Sources::Rounds18(_) => expand(&m, tables::whitening_18(), tables::layers_18()),
-            Sources::Rounds24(_, _) => expand(&m, tables::whitening_24(), tables::layers_24()),
+            Sources::Rounds18(_) => Schedule {
+                kw: whitening(&m, WHITENING_18),
+                layers: Layers::Rounds18(layers(&m, &LAYERS_18)),
+            },
+            Sources::Rounds24(_, _) => Schedule {
+                kw: whitening(&m, WHITENING_24),
+                layers: Layers::Rounds24(layers(&m, &LAYERS_24)),
+            },
+        }
+    }
+}
+
+impl Layers {
+    pub(crate) fn as_slice(&self) -> &[Layer<u64>]
+        ensures { result.now ≡ layers_of self.now }
+    {
+        match self {
+            Layers::Rounds18(layers) => layers,
+            Layers::Rounds24(layers) => layers,
         }
     }
 }

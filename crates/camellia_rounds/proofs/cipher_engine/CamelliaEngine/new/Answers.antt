@@ -1,4 +1,4 @@
-use Rattle.std.proofs.Common.{◌≡◌, refl, replicate, sym, ap, ◌∙◌}
+use Rattle.std.proofs.Common.{◌≡◌, refl, replicate, sym, ◌∙◌}
 use Rattle.camellia.specs.Keys.{schedule}
 use Rattle.camellia.specs.Cipher.{enciphered, deciphered}
 use Rattle.camellia.proofs.Schedules.{schedule_16}
