@@ -91,10 +91,11 @@ impl<H: Half> Halves<H> {
         ensures { (ys : List (Layer ℕ)) → YieldsList I.next_gives (λ y. y) layers ys
             → state_of H.value result ≡ encrypt_of (record { kw = kw; layers = ys }) (state_of H.value self) }
     {
-        layers
-            .fold(self.whitened(kw.kw1, kw.kw2), |s, layer| s.step(layer))
-            .swapped()
-            .whitened(kw.kw3, kw.kw4)
+        let mut s = self.whitened(kw.kw1, kw.kw2);
+        for layer in layers {
+            s = s.step(layer);
+        }
+        s.swapped().whitened(kw.kw3, kw.kw4)
     }
 
     pub(crate) fn encrypted(self, k: &Schedule) -> Self
