@@ -1,5 +1,5 @@
 // The subkeys that the tables take from the four sources.
-ghost use Rattle.std.specs.Prelude.{◌≡◌, ◌≤◌, map};
+ghost use Rattle.std.specs.Prelude.{◌≡◌, map};
 ghost use Rattle.camellia.specs.Keys.{layer_of, whitening_of};
 ghost use Rattle.camellia_rounds.specs.Sources.{schedule_from};
 ghost use Rattle.camellia_rounds.specs.Told.{layers_of, schedule_of};
@@ -11,6 +11,7 @@ use crate::subkey::subkey;
 use crate::tables::{LAYERS_18, LAYERS_24, WHITENING_18, WHITENING_24};
 use camellia::plan::{Layer, Material, Slot, Whitening};
 
+#[inline(always)]
 fn layer(m: &Material, slots: Layer<Slot>) -> Layer<u64>
     ensures { result ≡ layer_of m.now slots }
 {
@@ -21,10 +22,14 @@ fn layer(m: &Material, slots: Layer<Slot>) -> Layer<u64>
 }
 
 fn layers<const N: usize>(m: &Material, slots: &[Layer<Slot>; N]) -> [Layer<u64>; N]
-    requires { N ≤ 27 }
     ensures { result ≡ map (layer_of m.now) slots.now }
 {
-    slots.map(|slots| layer(m, slots))
+    // A loop: an array's `map` takes four times as long, since the elements wait in an iterator first.
+    let mut layers = [Layer::Round(0); N];
+    for (i, slots) in slots.iter().enumerate() {
+        layers[i] = layer(m, *slots);
+    }
+    layers
 }
 
 fn whitening(m: &Material, slots: Whitening<Slot>) -> Whitening<u64>

@@ -57,6 +57,7 @@ impl<H: Half> Halves<H> {
         }
     }
 
+    #[inline(always)]
     pub(crate) fn round(self, k: u64) -> Self
         ensures { state_of H.value result ≡ step_of (Round k) (state_of H.value self) }
     {
@@ -66,6 +67,7 @@ impl<H: Half> Halves<H> {
         }
     }
 
+    #[inline(always)]
     fn fl(self, a: u64, b: u64) -> Self
         ensures { state_of H.value result ≡ step_of (Fl a b) (state_of H.value self) }
     {
@@ -75,6 +77,7 @@ impl<H: Half> Halves<H> {
         }
     }
 
+    #[inline(always)]
     fn step(self, layer: Layer<u64>) -> Self
         ensures { state_of H.value result ≡ step_of layer (state_of H.value self) }
     {
@@ -85,6 +88,7 @@ impl<H: Half> Halves<H> {
     }
 
     // E with these whitening keys and these layers, in the order in which they come.
+    #[inline(always)]
     fn enciphered<I: Iterator<Item = Layer<u64>>>(self, kw: Whitening<u64>, layers: I) -> Self
         requires can { I.can_next layers }
         requires finite { IsFinite (I.remaining layers) }
