@@ -1,16 +1,18 @@
--- One layer more, from the front and from the back.
-use Rattle.std.proofs.Common.{◌≡◌, ℕ, ◌+◌, ◌<◌, List, [], ◌∷◌, length, get_or, drop, ◌∙◌}
-use Rattle.std.proofs.lemmas.List.{at_drop_more}
+-- One layer more at the end, and the layers from the last to the first.
+use Rattle.std.proofs.Common.{◌≡◌, ℕ, List, [], ◌∷◌, ◌++◌, map, reverse, sym, refl, ap, ◌∙◌}
+use mathlib.Core.List.{map-append}
+use Rattle.std.proofs.lemmas.List.{reverse-append}
 use Rattle.camellia.specs.Rounds.{State, step, run, turned, backward}
 use Rattle.camellia.specs.declared.plan.Layer.{Layer}
 use Rattle.camellia.proofs.Undo.{run-++}
 
-module _ (ys : List (Layer ℕ)) (i : ℕ) (d : Layer ℕ) (s : State) (h : i < length ys) where
-  pub run_more : run (drop i ys) s ≡ run (drop (i + 1) ys) (step (get_or ys i d) s)
-  unfolding run
-  run_more = at_drop_more (λ zs. run zs s) ys i d h
+pub run-push : (ys : List (Layer ℕ)) (y : Layer ℕ) (s t u : State) → t ≡ run ys s → u ≡ step y t → u ≡ run (ys ++ y ∷ []) s
+unfolding run
+run-push ys y s t u at more = more ∙ ap (step y) at ∙ sym (run-++ ys (y ∷ []) s)
 
-  pub run-back-more : run (backward (drop i ys)) s ≡ step (turned (get_or ys i d)) (run (backward (drop (i + 1) ys)) s)
-  unfolding run backward
-  run-back-more =
-      at_drop_more (λ zs. run (backward zs) s) ys i d h ∙ run-++ (backward (drop (i + 1) ys)) (turned (get_or ys i d) ∷ []) s
+pub turned-reversed : (ys : List (Layer ℕ)) → map turned (reverse ys) ≡ backward ys
+unfolding backward
+turned-reversed [] = refl
+turned-reversed (y ∷ ys) =
+    ap (map turned) (reverse-append (y ∷ []) ys) ∙ map-append turned (reverse ys) (y ∷ [])
+    ∙ ap (λ (zs : List (Layer ℕ)). zs ++ turned y ∷ []) (turned-reversed ys)

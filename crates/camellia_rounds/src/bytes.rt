@@ -1,9 +1,9 @@
 // Bytes and numbers, the most significant byte first.
-ghost use Rattle.std.specs.Prelude.{◌≡◌, ◌+◌, ◌≤◌, length};
+ghost use Rattle.std.specs.Prelude.{◌≡◌};
 ghost use Rattle.camellia.specs.Numbers.{half_at, bytes8};
 ghost use Rattle.camellia.specs.Rounds.{st};
 ghost use Rattle.camellia.specs.Keys.{left_half, right_half, joined as joined_of};
-ghost use Rattle.camellia.specs.Cipher.{to_bytes};
+ghost use Rattle.camellia.specs.Cipher.{to_state, to_bytes};
 
 pub fn left(x: u128) -> u64
     ensures { result ≡ left_half x }
@@ -23,29 +23,19 @@ pub fn joined(left: u64, right: u64) -> u128
     (left as u128) << 64 | right as u128
 }
 
-// The eight bytes from a place on, the most significant first.
-pub(crate) fn half_at(bytes: &[u8], at: usize) -> u64
-    requires { at + 8 ≤ length bytes.now }
-    ensures { result ≡ half_at bytes.now at }
+// Half a block, or eight bytes of a key.
+pub(crate) fn half(bytes: &[u8; 8]) -> u64
+    ensures { result ≡ half_at bytes.now 0 }
 {
-    u64::from_be_bytes([
-        bytes[at],
-        bytes[at + 1],
-        bytes[at + 2],
-        bytes[at + 3],
-        bytes[at + 4],
-        bytes[at + 5],
-        bytes[at + 6],
-        bytes[at + 7],
-    ])
+    u64::from_be_bytes(*bytes)
 }
 
-// The sixteen bytes from a place on, likewise.
-pub(crate) fn halves_at(bytes: &[u8], at: usize) -> u128
-    requires { at + 16 ≤ length bytes.now }
-    ensures { result ≡ joined_of (half_at bytes.now at) (half_at bytes.now (at + 8)) }
+// The two halves of a block.
+pub fn halves(block: &[u8; 16]) -> (u64, u64)
+    ensures { st result.0 result.1 ≡ to_state block.now }
 {
-    joined(half_at(bytes, at), half_at(bytes, at + 8))
+    let x = u128::from_be_bytes(*block);
+    (left(x), right(x))
 }
 
 // Swapped first: the compiler stores the least significant byte first in one go, and the other order byte by byte.

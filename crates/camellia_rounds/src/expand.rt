@@ -1,50 +1,17 @@
-// The key schedule: K_A and K_B from K_L and K_R, and the subkeys that the tables take from the four.
-ghost use Rattle.std.specs.Prelude.{◌≡◌, ◌≤◌, length};
-ghost use Rattle.camellia.specs.Keys.{mixed as mixed_of, material as material_of, layer_of, scheduled};
-ghost use Rattle.camellia.specs.Keys.{whitening18, layers18, whitening24, layers24};
-ghost use Rattle.camellia_rounds.specs.Told.{schedule_of};
+// The subkeys that the tables take from the four sources.
+ghost use Rattle.std.specs.Prelude.{◌≡◌, map};
+ghost use Rattle.camellia.specs.Keys.{layer_of, whitening_of};
+ghost use Rattle.camellia_rounds.specs.Sources.{schedule_from};
+ghost use Rattle.camellia_rounds.specs.Told.{layers_of, schedule_of};
 
-use crate::bytes::{joined, left, right};
 use crate::half::Half;
-use crate::rounds::Halves;
-use crate::schedule::Schedule;
+use crate::schedule::{Layers, Schedule};
+use crate::sources::Sources;
 use crate::subkey::subkey;
-use crate::tables;
+use crate::tables::{LAYERS_18, LAYERS_24, WHITENING_18, WHITENING_24};
 use camellia::plan::{Layer, Material, Slot, Whitening};
 
-const SIGMA_1: u64 = 0xA09E667F3BCC908B;
-
-const SIGMA_2: u64 = 0xB67AE8584CAA73B2;
-
-const SIGMA_3: u64 = 0xC6EF372FE94F82BE;
-
-const SIGMA_4: u64 = 0x54FF53A5F1D36F1C;
-
-const SIGMA_5: u64 = 0x10E527FADE682D1D;
-
-const SIGMA_6: u64 = 0xB05688C2B3E6C1FD;
-
-// Two rounds under two constants.
-fn mixed<H: Half>(first: u64, second: u64, x: u128) -> u128
-    ensures { result ≡ mixed_of first second x }
-{
-    let s: Halves<H> = Halves {
-        left: H::from_number(left(x)),
-        right: H::from_number(right(x)),
-    };
-    let s = s.round(first).round(second);
-    joined(s.left.number(), s.right.number())
-}
-
-fn material<H: Half>(kl: u128, kr: u128) -> Material
-    ensures { result ≡ material_of kl kr }
-{
-    let t = mixed::<H>(SIGMA_1, SIGMA_2, kl ^ kr);
-    let ka = mixed::<H>(SIGMA_3, SIGMA_4, t ^ kl);
-    let kb = mixed::<H>(SIGMA_5, SIGMA_6, ka ^ kr);
-    Material { kl, kr, ka, kb }
-}
-
+#[inline(always)]
 fn layer(m: &Material, slots: Layer<Slot>) -> Layer<u64>
     ensures { result ≡ layer_of m.now slots }
 {
@@ -54,54 +21,53 @@ fn layer(m: &Material, slots: Layer<Slot>) -> Layer<u64>
     }
 }
 
+fn layers<const N: usize>(m: &Material, slots: &[Layer<Slot>; N]) -> [Layer<u64>; N]
+    ensures { result ≡ map (layer_of m.now) slots.now }
+{
+    // A loop: an array's `map` takes four times as long, since the elements wait in an iterator first.
+    let mut layers = [Layer::Round(0); N];
+    for (i, slots) in slots.iter().enumerate() {
+        layers[i] = layer(m, *slots);
+    }
+    layers
+}
+
+fn whitening(m: &Material, slots: Whitening<Slot>) -> Whitening<u64>
+    ensures { result ≡ whitening_of m.now slots }
+{
+    Whitening {
+        kw1: subkey(m, slots.kw1),
+        kw2: subkey(m, slots.kw2),
+        kw3: subkey(m, slots.kw3),
+        kw4: subkey(m, slots.kw4),
+    }
+}
+
 impl Schedule {
-    // The key's layers.
-    pub(crate) fn layers(&self) -> &[Layer<u64>]
-        ensures { result.now ≡ (schedule_of self.now).layers }
+    pub(crate) fn of<H: Half>(sources: Sources) -> Self
+        ensures { schedule_of result ≡ schedule_from sources }
     {
-        &self.layers[0..self.count]
+        let m = sources.material::<H>();
+        match sources {
+            Sources::Rounds18(_) => Schedule {
+                kw: whitening(&m, WHITENING_18),
+                layers: Layers::Rounds18(layers(&m, &LAYERS_18)),
+            },
+            Sources::Rounds24(_, _) => Schedule {
+                kw: whitening(&m, WHITENING_24),
+                layers: Layers::Rounds24(layers(&m, &LAYERS_24)),
+            },
+        }
     }
 }
 
-fn expand(m: &Material, whitening: &Whitening<Slot>, slots: &[Layer<Slot>]) -> Schedule
-    requires { length slots.now ≤ 27 }
-    ensures { schedule_of result ≡ scheduled m.now whitening.now slots.now }
-{
-    let mut layers = [Layer::Round(0); 27];
-    for (i, slot) in slots.iter().enumerate() {
-        layers[i] = layer(m, *slot);
+impl Layers {
+    pub(crate) fn as_slice(&self) -> &[Layer<u64>]
+        ensures { result.now ≡ layers_of self.now }
+    {
+        match self {
+            Layers::Rounds18(layers) => layers,
+            Layers::Rounds24(layers) => layers,
+        }
     }
-    let kw = Whitening {
-        kw1: subkey(m, whitening.kw1),
-        kw2: subkey(m, whitening.kw2),
-        kw3: subkey(m, whitening.kw3),
-        kw4: subkey(m, whitening.kw4),
-    };
-    Schedule {
-        kw,
-        layers,
-        count: slots.len(),
-    }
-}
-
-// The schedule of a 16-byte key.
-pub(crate) fn expand_18<H: Half>(kl: u128) -> Schedule
-    ensures { schedule_of result ≡ scheduled (material_of kl 0) whitening18 layers18 }
-{
-    expand(
-        &material::<H>(kl, 0),
-        tables::whitening_18(),
-        tables::layers_18(),
-    )
-}
-
-// The schedule of a 24- or 32-byte key.
-pub(crate) fn expand_24<H: Half>(kl: u128, kr: u128) -> Schedule
-    ensures { schedule_of result ≡ scheduled (material_of kl kr) whitening24 layers24 }
-{
-    expand(
-        &material::<H>(kl, kr),
-        tables::whitening_24(),
-        tables::layers_24(),
-    )
 }

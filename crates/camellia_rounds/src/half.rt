@@ -1,27 +1,41 @@
 ghost use Rattle.std.specs.Prelude.{◌≡◌, ℕ};
 ghost use Rattle.camellia.specs.Numbers.{◌⊕◌};
-ghost use Rattle.camellia.specs.Functions.{F, FL, FLINV};
+ghost use Rattle.camellia.specs.Functions.{PS, F, FL, FLINV};
 
-// A 64-bit half of a block, in the form in which a path computes.
-pub trait Half: Copy {
+use crate::parts::{fl, fl_inverse};
+
+// A 64-bit half of a block, in the form in which a path computes. It is made of a number and gives it back.
+pub trait Half: Copy + From<u64> + Into<u64> {
     // the number that a half is
     ghost value: { Self → ℕ };
-
-    fn from_number(x: u64) -> Self
-        ensures { value result ≡ x };
-
-    fn number(self) -> u64
-        ensures { result ≡ value self };
 
     fn xor(self, other: Self) -> Self
         ensures { value result ≡ value self ⊕ value other };
 
-    fn f(self, key: Self) -> Self
-        ensures { value result ≡ F (value self) (value key) };
+    // S on each byte, and then P
+    fn ps(self) -> Self
+        ensures { value result ≡ PS (value self) };
 
-    fn fl(self, key: Self) -> Self
-        ensures { value result ≡ FL (value self) (value key) };
+    ghost made: { (x : ℕ) (s : Self) → Self.from_gives x s → value s ≡ x };
 
-    fn fl_inverse(self, key: Self) -> Self
-        ensures { value result ≡ FLINV (value self) (value key) };
+    ghost told: { (s : Self) (x : ℕ) → Self.converts s x → x ≡ value s };
+
+    #[tactic(auto, unfolding(camellia::specs::Functions::F))]
+    final fn f(self, key: Self) -> Self
+        ensures { value result ≡ F (value self) (value key) }
+    {
+        self.xor(key).ps()
+    }
+
+    final fn fl(self, key: Self) -> Self
+        ensures { value result ≡ FL (value self) (value key) }
+    {
+        Self::from(fl(self.into(), key.into()))
+    }
+
+    final fn fl_inverse(self, key: Self) -> Self
+        ensures { value result ≡ FLINV (value self) (value key) }
+    {
+        Self::from(fl_inverse(self.into(), key.into()))
+    }
 }

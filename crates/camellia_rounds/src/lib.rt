@@ -9,5 +9,6 @@ pub mod half;
 pub mod parts;
 mod rounds;
 mod schedule;
+pub mod sources;
 pub mod subkey;
 mod tables;

@@ -1,17 +1,63 @@
 // FL and its inverse on the two 32-bit parts of a half.
 ghost use Rattle.std.specs.Prelude.{◌≡◌};
-ghost use Rattle.camellia_rounds.specs.Parts.{fl_of, fl_inverse_of};
+ghost use Rattle.camellia.specs.Functions.{FL, FLINV};
+ghost use Rattle.camellia_rounds.specs.Parts.{whole, parts_of, fl_of, fl_inverse_of};
 
-pub fn fl(x: (u32, u32), k: (u32, u32)) -> (u32, u32)
-    ensures { result ≡ fl_of x k }
-{
-    let right = (x.0 & k.0).rotate_left(1) ^ x.1;
-    ((right | k.1) ^ x.0, right)
+#[derive(Clone, Copy)]
+pub struct Parts {
+    pub left: u32,
+    pub right: u32,
 }
 
-pub fn fl_inverse(y: (u32, u32), k: (u32, u32)) -> (u32, u32)
-    ensures { result ≡ fl_inverse_of y k }
+impl From<u64> for Parts {
+    ghost from_gives = { λ x s. s ≡ parts_of x };
+
+    fn from(x: u64) -> Self {
+        Parts {
+            left: (x >> 32) as u32,
+            right: (x & 0xffff_ffff) as u32,
+        }
+    }
+}
+
+impl From<Parts> for u64 {
+    ghost from_gives = { λ s x. x ≡ whole s };
+
+    fn from(s: Parts) -> u64 {
+        (s.left as u64) << 32 | s.right as u64
+    }
+}
+
+impl Parts {
+    pub fn fl(self, k: Parts) -> Parts
+        ensures { result ≡ fl_of self k }
+    {
+        let right = (self.left & k.left).rotate_left(1) ^ self.right;
+        Parts {
+            left: (right | k.right) ^ self.left,
+            right,
+        }
+    }
+
+    pub fn fl_inverse(self, k: Parts) -> Parts
+        ensures { result ≡ fl_inverse_of self k }
+    {
+        let left = (self.right | k.right) ^ self.left;
+        Parts {
+            left,
+            right: (left & k.left).rotate_left(1) ^ self.right,
+        }
+    }
+}
+
+pub fn fl(x: u64, k: u64) -> u64
+    ensures { result ≡ FL x k }
 {
-    let left = (y.1 | k.1) ^ y.0;
-    (left, (left & k.0).rotate_left(1) ^ y.1)
+    Parts::from(x).fl(Parts::from(k)).into()
+}
+
+pub fn fl_inverse(y: u64, k: u64) -> u64
+    ensures { result ≡ FLINV y k }
+{
+    Parts::from(y).fl_inverse(Parts::from(k)).into()
 }

@@ -1,18 +1,15 @@
 // Where each subkey comes from: source, rotation and side, as RFC 3713 lists them.
-ghost use Rattle.std.specs.Prelude.{◌≡◌};
-ghost use Rattle.camellia.specs.Keys.{whitening18, layers18, whitening24, layers24};
-
 use camellia::plan::{Layer, Slot, Source, Whitening};
 
 // 18 rounds and 4 keys of FL, for 16-byte keys.
-static WHITENING_18: Whitening<Slot> = Whitening {
+pub(crate) const WHITENING_18: Whitening<Slot> = Whitening {
     kw1: Slot::Left(Source::KL, 0),
     kw2: Slot::Right(Source::KL, 0),
     kw3: Slot::Left(Source::KA, 111),
     kw4: Slot::Right(Source::KA, 111),
 };
 
-static LAYERS_18: [Layer<Slot>; 20] = [
+pub(crate) const LAYERS_18: [Layer<Slot>; 20] = [
     Layer::Round(Slot::Left(Source::KA, 0)),
     Layer::Round(Slot::Right(Source::KA, 0)),
     Layer::Round(Slot::Left(Source::KL, 15)),
@@ -36,14 +33,14 @@ static LAYERS_18: [Layer<Slot>; 20] = [
 ];
 
 // 24 rounds and 6 keys of FL, for 24- and 32-byte keys.
-static WHITENING_24: Whitening<Slot> = Whitening {
+pub(crate) const WHITENING_24: Whitening<Slot> = Whitening {
     kw1: Slot::Left(Source::KL, 0),
     kw2: Slot::Right(Source::KL, 0),
     kw3: Slot::Left(Source::KB, 111),
     kw4: Slot::Right(Source::KB, 111),
 };
 
-static LAYERS_24: [Layer<Slot>; 27] = [
+pub(crate) const LAYERS_24: [Layer<Slot>; 27] = [
     Layer::Round(Slot::Left(Source::KB, 0)),
     Layer::Round(Slot::Right(Source::KB, 0)),
     Layer::Round(Slot::Left(Source::KR, 15)),
@@ -72,27 +69,3 @@ static LAYERS_24: [Layer<Slot>; 27] = [
     Layer::Round(Slot::Left(Source::KL, 111)),
     Layer::Round(Slot::Right(Source::KL, 111)),
 ];
-
-pub(crate) fn whitening_18() -> &'static Whitening<Slot>
-    ensures { result.now ≡ whitening18 }
-{
-    &WHITENING_18
-}
-
-pub(crate) fn layers_18() -> &'static [Layer<Slot>]
-    ensures { result.now ≡ layers18 }
-{
-    &LAYERS_18
-}
-
-pub(crate) fn whitening_24() -> &'static Whitening<Slot>
-    ensures { result.now ≡ whitening24 }
-{
-    &WHITENING_24
-}
-
-pub(crate) fn layers_24() -> &'static [Layer<Slot>]
-    ensures { result.now ≡ layers24 }
-{
-    &LAYERS_24
-}

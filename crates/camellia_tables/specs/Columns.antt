@@ -56,9 +56,5 @@ sums y =
     spread 0 (y / 2 ^ 56 % 256) ⊕ spread 1 (y / 2 ^ 48 % 256) ⊕ spread 2 (y / 2 ^ 40 % 256) ⊕ spread 3 (y / 2 ^ 32 % 256)
     ⊕ spread 4 (y / 2 ^ 24 % 256) ⊕ spread 5 (y / 2 ^ 16 % 256) ⊕ spread 6 (y / 2 ^ 8 % 256) ⊕ spread 7 (y % 256)
 
--- the two 32-bit parts of a half
-abbrev pub parts_of : ℕ → ℕ × ℕ
-parts_of x = (x / 2 ^ 32, x % 2 ^ 32)
-
 abbrev pub tables : List (List ℕ)
 tables = map (λ i. map (spread i) (range_with_len 0 256)) (range_with_len 0 8)

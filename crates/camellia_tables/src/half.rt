@@ -1,10 +1,30 @@
+// A half as a number.
 ghost use Rattle.std.specs.Prelude.{◌≡◌, ◌%◌, ◌<◌};
+ghost use Rattle.std.proofs.Common.{rules};
 ghost use Rattle.camellia.specs.Functions.{F, FL, FLINV};
-ghost use Rattle.camellia_rounds.specs.Parts.{whole as whole_of, fl_of, fl_inverse_of};
-ghost use Rattle.camellia_tables.specs.Columns.{spread, sums as sums_of, parts_of};
+ghost use Rattle.camellia_tables.specs.Columns.{spread, sums as sums_of};
 
 use crate::table::tables;
-use camellia_rounds::parts;
+use camellia_rounds::half::Half;
+
+#[derive(Clone, Copy)]
+pub struct TableHalf(pub u64);
+
+impl From<u64> for TableHalf {
+    ghost from_gives = { λ x s. s.0 ≡ x };
+
+    fn from(x: u64) -> Self {
+        TableHalf(x)
+    }
+}
+
+impl From<TableHalf> for u64 {
+    ghost from_gives = { λ s x. x ≡ s.0 };
+
+    fn from(s: TableHalf) -> Self {
+        s.0
+    }
+}
 
 // The low byte of `y` through the table of place `i`; the mask bounds the index and costs nothing.
 fn sp(i: usize, y: u64) -> u64
@@ -28,44 +48,37 @@ fn sums(y: u64) -> u64
         ^ sp(7, y)
 }
 
+impl Half for TableHalf {
+    ghost value = { λ s. s.0 };
+
+    ghost made = { Prim.search rules };
+
+    ghost told = { Prim.search rules };
+
+    fn xor(self, other: Self) -> Self {
+        TableHalf(self.0 ^ other.0)
+    }
+
+    fn ps(self) -> Self {
+        TableHalf(sums(self.0))
+    }
+}
+
+// The same on plain numbers.
 pub fn f(x: u64, k: u64) -> u64
     ensures { result ≡ F x k }
 {
-    sums(x ^ k)
-}
-
-pub fn split(x: u64) -> (u32, u32)
-    ensures { result ≡ parts_of x }
-{
-    ((x >> 32) as u32, (x % 0x1_0000_0000) as u32)
-}
-
-pub fn whole(parts: (u32, u32)) -> u64
-    ensures { result ≡ whole_of parts }
-{
-    parts.0 as u64 * 0x1_0000_0000 + parts.1 as u64
-}
-
-fn fl_by_parts(x: u64, k: u64) -> u64
-    ensures { result ≡ whole_of (fl_of (parts_of x) (parts_of k)) }
-{
-    whole(parts::fl(split(x), split(k)))
-}
-
-fn fl_inverse_by_parts(y: u64, k: u64) -> u64
-    ensures { result ≡ whole_of (fl_inverse_of (parts_of y) (parts_of k)) }
-{
-    whole(parts::fl_inverse(split(y), split(k)))
+    TableHalf(x).f(TableHalf(k)).0
 }
 
 pub fn fl(x: u64, k: u64) -> u64
     ensures { result ≡ FL x k }
 {
-    fl_by_parts(x, k)
+    TableHalf(x).fl(TableHalf(k)).0
 }
 
 pub fn fl_inverse(y: u64, k: u64) -> u64
     ensures { result ≡ FLINV y k }
 {
-    fl_inverse_by_parts(y, k)
+    TableHalf(y).fl_inverse(TableHalf(k)).0
 }

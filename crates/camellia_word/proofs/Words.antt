@@ -75,7 +75,7 @@ module _ {x a b c d y a' b' c' d' : ℕ} (v : Word x a b c d) (w : Word y a' b' 
   eight =
       record { b1 = v.a_lt; b2 = v.b_lt; b3 = v.c_lt; b4 = v.d_lt; b5 = w.a_lt; b6 = w.b_lt; b7 = w.c_lt; b8 = w.d_lt }
 
-  whole-join8 : whole (x, y) ≡ join8 a b c d a' b' c' d'
+  whole-join8 : whole (record { left = x; right = y }) ≡ join8 a b c d a' b' c' d'
   whole-join8 = omega arith
 
 none : Word 0 0 0 0 0
@@ -105,7 +105,7 @@ rotated-P v w =
     whole-join8 r2 l2 ∙ simp xors
 
 pub PS_words : (l r : ℕ) → l < 2 ^ 32 → r < 2 ^ 32
-    → whole (rotated (left_s s1table l) (right_s s1table r)) ≡ PS (whole (l, r))
+    → whole (rotated (left_s s1table l) (right_s s1table r)) ≡ PS (whole (record { left = l; right = r }))
 PS_words l r hl hr =
     let v = bytes_of l hl in
     let w = bytes_of r hr in

@@ -1,65 +1,62 @@
 // A half as two words, the left one its upper 32 bits.
 ghost use Rattle.std.specs.Prelude.{◌≡◌};
+ghost use Rattle.std.proofs.Common.{rules};
 ghost use Rattle.camellia_rounds.specs.Parts.{whole};
 ghost use Rattle.camellia_word.specs.Words.{rotated};
 
 use crate::sbox::{substitute_left, substitute_right};
 use camellia_rounds::half::Half;
-use camellia_rounds::parts::{fl, fl_inverse};
+use camellia_rounds::parts::Parts;
 
 #[derive(Clone, Copy)]
-pub struct WordHalf {
-    left: u32,
-    right: u32,
+pub struct WordHalf(Parts);
+
+impl From<u64> for WordHalf {
+    ghost from_gives = { λ x s. whole s.0 ≡ x };
+
+    fn from(x: u64) -> Self {
+        WordHalf(Parts::from(x))
+    }
+}
+
+impl From<WordHalf> for u64 {
+    ghost from_gives = { λ s x. x ≡ whole s.0 };
+
+    fn from(s: WordHalf) -> Self {
+        s.0.into()
+    }
 }
 
 // P: four times a word takes the other, rotated by whole bytes, and then the words change places.
-fn spread(left: u32, right: u32) -> (u32, u32)
+fn spread(left: u32, right: u32) -> Parts
     ensures { result ≡ rotated left right }
 {
     let left = left ^ right.rotate_left(8);
     let right = right ^ left.rotate_left(16);
     let left = left ^ right.rotate_right(8);
     let right = right ^ left.rotate_right(8);
-    (right, left)
+    Parts {
+        left: right,
+        right: left,
+    }
 }
 
 impl Half for WordHalf {
-    ghost value = { λ s. whole (s.left, s.right) };
+    ghost value = { λ s. whole s.0 };
 
-    fn from_number(x: u64) -> Self {
-        WordHalf {
-            left: (x >> 32) as u32,
-            right: (x & 0xffff_ffff) as u32,
-        }
-    }
+    ghost made = { Prim.search rules };
 
-    fn number(self) -> u64 {
-        (self.left as u64) << 32 | self.right as u64
-    }
+    ghost told = { Prim.search rules };
 
     fn xor(self, other: Self) -> Self {
-        WordHalf {
-            left: self.left ^ other.left,
-            right: self.right ^ other.right,
-        }
+        WordHalf(Parts {
+            left: self.0.left ^ other.0.left,
+            right: self.0.right ^ other.0.right,
+        })
     }
 
-    fn f(self, key: Self) -> Self {
-        let (left, right) = spread(
-            substitute_left(self.left ^ key.left),
-            substitute_right(self.right ^ key.right),
-        );
-        WordHalf { left, right }
-    }
-
-    fn fl(self, key: Self) -> Self {
-        let (left, right) = fl((self.left, self.right), (key.left, key.right));
-        WordHalf { left, right }
-    }
-
-    fn fl_inverse(self, key: Self) -> Self {
-        let (left, right) = fl_inverse((self.left, self.right), (key.left, key.right));
-        WordHalf { left, right }
+    fn ps(self) -> Self {
+        let WordHalf(Parts { left, right }) = self;
+        WordHalf(spread(substitute_left(left), substitute_right(right)))
     }
 }

@@ -1,11 +1,15 @@
-use Rattle.std.proofs.Common.{ap, ◌∙◌, ap₂}
-use Rattle.camellia.specs.Rounds.{State, run, swapped, whitened, backward}
+use Rattle.std.proofs.Common.{map, reverse, ◌∙◌, rules}
+use Rattle.std.proofs.lemmas.Iterator.{YieldsList-from_map}
+use Rattle.std.proofs.lemmas.Iterator.Adapters.{YieldsList-from_rev_slice}
+use Rattle.camellia.specs.Rounds.{turned}
 use Rattle.camellia.specs.Cipher.{encrypt}
+use Rattle.camellia_rounds.specs.Told.{state_of, schedule_of}
+use Rattle.camellia_rounds.proofs.Runs.{turned-reversed}
 use Rattle.camellia_rounds.proofs.rounds.Halves.decrypted.Goals as goal
 
 pub returns : goal.returns
-unfolding encrypt
 returns g c =
-    let w = c.args.k.now.kw in
-    let end = c.backward-s.ensures ∙ ap₂ (λ ys (s : State). run (backward ys) s) c.layers.ensures c.whitened.ensures in
-    c.whitened-2.ensures ∙ ap (whitened w.kw1 w.kw2) (c.swapped.ensures ∙ ap swapped end)
+    let layers = (schedule_of c.args.k.now).layers in
+    c.enciphered.ensures (map turned (reverse layers))
+    (YieldsList-from_map _ turned (YieldsList-from_rev_slice layers cc) c.map.ensures.closure (λ x r q k. search rules))
+    ∙ (λ i. encrypt (record { kw = c.exchanged.ensures i; layers = turned-reversed layers i }) (state_of g.H.Half.value c.args.self))

@@ -1,11 +1,9 @@
-use Rattle.std.proofs.Common.{ap, ◌∙◌, ap₂}
-use Rattle.camellia.specs.Rounds.{State, run, swapped, whitened}
-use Rattle.camellia.specs.Cipher.{encrypt}
+use Rattle.std.proofs.lemmas.Iterator.{YieldsList-from_slice}
+use Rattle.std.proofs.lemmas.Iterator.Consumers.{YieldsList-from_copied}
+use Rattle.camellia_rounds.specs.Told.{schedule_of}
 use Rattle.camellia_rounds.proofs.rounds.Halves.encrypted.Goals as goal
 
 pub returns : goal.returns
-unfolding encrypt
 returns g c =
-    let w = c.args.k.now.kw in
-    let end = c.forward-s.ensures ∙ ap₂ (λ ys (s : State). run ys s) c.layers.ensures c.whitened.ensures in
-    c.whitened-2.ensures ∙ ap (whitened w.kw3 w.kw4) (c.swapped.ensures ∙ ap swapped end)
+    let layers = (schedule_of c.args.k.now).layers in
+    c.enciphered.ensures layers (YieldsList-from_copied (YieldsList-from_slice layers cc))

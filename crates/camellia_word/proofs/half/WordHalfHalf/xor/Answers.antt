@@ -4,6 +4,6 @@ use Rattle.camellia_word.proofs.half.WordHalfHalf.xor.Goals as goal
 
 pub returns : goal.returns
 returns c =
-    let x = c.args.self in
-    let y = c.args.other in
+    let x = c.args.self.0 in
+    let y = c.args.other.0 in
     sym (xor_block 32 x.left y.left x.right y.right (search rules) (search rules))

@@ -1,7 +1,0 @@
-use Rattle.std.proofs.Common.{◌∙◌}
-use Rattle.camellia.specs.Keys.{scheduled}
-use Rattle.camellia_rounds.proofs.expand.expand_24.Goals as goal
-
-pub returns : goal.returns
-returns g c =
-    c.expand.ensures ∙ (λ i. scheduled (c.material.ensures i) (c.whitening_24.ensures i) (c.layers_24.ensures i))
