@@ -1,3 +1,2 @@
-mod Blocks
-mod Frames
 mod Told
+mod Each

@@ -1,12 +1,8 @@
 -- What the types of the code stand for in the definition of the cipher.
 use Rattle.std.specs.Prelude.{ℕ, List}
-use Rattle.camellia.specs.Rounds.{State, st}
 use Rattle.camellia.specs.Cipher.{enciphered, deciphered}
 use Rattle.camellia_subkeys.specs.Groups.{schedule_of}
 use Rattle.camellia_long.specs.declared.cipher.LongCamellia.{LongCamellia}
-
-abbrev pub state_of : ℕ × ℕ → State
-state_of s = st s.0 s.1
 
 -- E and D of the key held
 abbrev pub enciphers_of : LongCamellia → List ℕ → List ℕ

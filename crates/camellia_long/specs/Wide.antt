@@ -1,25 +1,17 @@
 -- Several blocks at once: the left halves in one list, the right halves in another.
-use Rattle.std.specs.Prelude.{◌≡◌, ℕ, ◌<◌, List, [], length, slice_index, slice_index_or}
-use Rattle.camellia.specs.Numbers.{◌⊕◌}
+use Rattle.std.specs.Prelude.{◌≡◌, ℕ, ◌<◌, List, [], ◌∷◌, length, slice_index}
 use Rattle.camellia.specs.Rounds.{State, st}
-use Rattle.camellia.specs.Cipher.{to_state, to_bytes}
+use Rattle.camellia_long.specs.declared.blocks.Blocks.{Blocks}
 
-pub record Whitened (n k : ℕ) (a a' : List ℕ) : Type 0 where
-  pub long : length a' ≡ n
-  pub at : (i : ℕ) → i < n → slice_index a' i ≡ slice_index a i ⊕ k
+abbrev pub states : List ℕ → List ℕ → List State
+states [] ys = []
+states (x ∷ xs) [] = []
+states (x ∷ xs) (y ∷ ys) = st x y ∷ states xs ys
 
--- each of n blocks goes through f
-pub record Each (n : ℕ) (f : State → State) (a b a' b' : List ℕ) : Type 0 where
-  pub left_long : length a' ≡ n
-  pub right_long : length b' ≡ n
-  pub at : (i : ℕ) → i < n → st (slice_index a' i) (slice_index b' i) ≡ f (st (slice_index a i) (slice_index b i))
+abbrev pub blocks_of : {n : ℕ} → Blocks n → List State
+blocks_of b = states b.left b.right
 
--- eight blocks and their halves
-pub record Split (blocks : List (List ℕ)) (a b : List ℕ) : Type 0 where
-  pub left_long : length a ≡ 8
-  pub right_long : length b ≡ 8
-  pub at : (i : ℕ) → i < 8 → st (slice_index a i) (slice_index b i) ≡ to_state (slice_index_or blocks i [])
-
-pub record Joined (a b : List ℕ) (blocks : List (List ℕ)) : Type 0 where
-  pub long : length blocks ≡ 8
-  pub at : (i : ℕ) → i < 8 → slice_index_or blocks i [] ≡ to_bytes (st (slice_index a i) (slice_index b i))
+-- f of each of n halves and of the other half of its block
+pub record Mixed (n : ℕ) (f : ℕ → ℕ → ℕ) (xs ys ys' : List ℕ) : Type 0 where
+  pub long : length ys' ≡ n
+  pub at : (i : ℕ) → i < n → slice_index ys' i ≡ f (slice_index xs i) (slice_index ys i)

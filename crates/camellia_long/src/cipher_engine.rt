@@ -1,5 +1,5 @@
 // The cipher under one key: load a key, encipher and decipher a block or a frame's eight.
-ghost use Rattle.std.specs.Prelude.{[], ◌∷◌, codes};
+ghost use Rattle.std.specs.Prelude.{◌≡◌, [], ◌∷◌, map, codes};
 ghost use Rattle.camellia.specs.Cipher.{E, D};
 ghost use Rattle.camellia.specs.Laws.{takes as takes_of};
 ghost use Rattle.camellia_long.specs.Told.{enciphers_of, deciphers_of};
@@ -7,14 +7,32 @@ ghost use Rattle.camellia.proofs.Whole;
 ghost use Rattle.camellia.proofs.Whole.{sized};
 ghost use Rattle.std.proofs.Common.{rules};
 
-use crate::bytes::{join, split};
+use crate::blocks::Blocks;
 use crate::cipher::LongCamellia;
-use crate::eight::{decrypt_eight, encrypt_eight};
-use crate::keys::keys_of;
-use crate::one::{decrypt_one, encrypt_one};
 use crate::zero::zero_keys;
+use camellia_rounds::sources::Sources;
+use camellia_subkeys::keys::FoldedKeys;
 use engine::Engine;
 use refusal::Refusal;
+use std::array;
+
+impl LongCamellia {
+    fn encipher_blocks<const N: usize>(&self, blocks: &mut [[u8; 16]; N])
+        ensures { blocks.new ≡ map (enciphers_of self.now) blocks.old }
+    {
+        let mut halves = Blocks::of(blocks);
+        halves.encrypt(&self.keys);
+        halves.put(blocks);
+    }
+
+    fn decipher_blocks<const N: usize>(&self, blocks: &mut [[u8; 16]; N])
+        ensures { blocks.new ≡ map (deciphers_of self.now) blocks.old }
+    {
+        let mut halves = Blocks::of(blocks);
+        halves.decrypt(&self.keys);
+        halves.put(blocks);
+    }
+}
 
 impl Engine for LongCamellia {
     ghost NAME = { codes "camellia" };
@@ -54,26 +72,23 @@ impl Engine for LongCamellia {
     }
 
     fn load(&mut self, key: &[u8]) -> Result<(), Refusal> {
-        if !Self::accepts(key.len()) {
-            return Err(Refusal::KeyLength);
-        }
-        self.keys = keys_of(key);
+        self.keys = FoldedKeys::from(Sources::try_from(key)?);
         Ok(())
     }
 
     fn encipher(&self, block: &mut [u8; 16]) {
-        *block = join(encrypt_one(&self.keys, split(block)));
+        self.encipher_blocks(array::from_mut(block));
     }
 
     fn decipher(&self, block: &mut [u8; 16]) {
-        *block = join(decrypt_one(&self.keys, split(block)));
+        self.decipher_blocks(array::from_mut(block));
     }
 
     fn encipher_eight(&self, blocks: &mut [[u8; 16]; 8]) {
-        encrypt_eight(&self.keys, blocks);
+        self.encipher_blocks(blocks);
     }
 
     fn decipher_eight(&self, blocks: &mut [[u8; 16]; 8]) {
-        decrypt_eight(&self.keys, blocks);
+        self.decipher_blocks(blocks);
     }
 }

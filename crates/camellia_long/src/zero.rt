@@ -3,22 +3,26 @@ ghost use Rattle.std.specs.Prelude.{◌≡◌, replicate};
 ghost use Rattle.camellia.specs.Cipher.{enciphered, deciphered, E, D};
 ghost use Rattle.camellia_subkeys.specs.Groups.{schedule_of};
 
-use camellia_subkeys::keys::{FoldedKeys, Groups};
+use camellia_subkeys::keys::{FlKeys, FoldedKeys, Group, Groups};
 
 const ZERO_KEYS: FoldedKeys = FoldedKeys {
     kw1: 0x4f9beb3e6afb3522,
     kw3: 0x6f388b64bb5b3676,
     groups: Groups {
-        rounds: [
-            [
-                0x59529d880617730d,
-                0xba30f99a6e6cde71,
-                0x4f9beb3e6afb3522,
-                0,
-                0xf4c0dd4849ece83a,
-                0x7ccd37366f388b64,
-            ],
-            [
+        first: [
+            0x59529d880617730d,
+            0xba30f99a6e6cde71,
+            0x4f9beb3e6afb3522,
+            0,
+            0xf4c0dd4849ece83a,
+            0x7ccd37366f388b64,
+        ],
+        second: Group {
+            fl: FlKeys {
+                left: 0x9b3b118bee8c3e66,
+                right: 0x9b9b379c45b25dad,
+            },
+            rounds: [
                 0x5fdaea2e7ccd3736,
                 0,
                 0xd71f1d6863fe7afb,
@@ -26,7 +30,10 @@ const ZERO_KEYS: FoldedKeys = FoldedKeys {
                 0xa479e5b7da2bfad1,
                 0x116c976b66cec462,
             ],
-            [
+        },
+        third: Group {
+            fl: FlKeys { left: 0, right: 0 },
+            rounds: [
                 0x2317dd187ccd3736,
                 0,
                 0xb88cea84397f6a9b,
@@ -34,10 +41,8 @@ const ZERO_KEYS: FoldedKeys = FoldedKeys {
                 0x2317dd187ccd3736,
                 0,
             ],
-            [0; 6],
-        ],
-        fls: [[0x9b3b118bee8c3e66, 0x9b9b379c45b25dad], [0; 2], [0; 2]],
-        four: false,
+        },
+        fourth: None,
     },
 };
 

@@ -1,37 +1,70 @@
--- The fold by groups is the fold of the schedule.
-use Rattle.std.proofs.Common.{true, false, [], ◌∷◌, ◌≡◌, refl, replicate}
-use Rattle.camellia.specs.Rounds.{backward}
-use Rattle.camellia.specs.Keys.{scheduled, whitening18, layers18, whitening24, layers24}
+-- Lists of six keys, and their rounds.
+use Rattle.std.proofs.Common.{ℕ, List, [], ◌∷◌, ◌++◌, ◌≡◌, refl, map, length, get_or, ap, sym, ◌∙◌, ap₂, arith, flat_map, option_to_list, Option, Some, None}
+use Rattle.std.proofs.lemmas.List.{append-nil, append_assoc}
+use mathlib.Core.List.{map-append}
+use Rattle.camellia.specs.Rounds.{turned, backward}
+use Rattle.camellia.specs.Keys.{subkey, layer_of}
 use Rattle.camellia.specs.declared.plan.Material.{Material}
-use Rattle.camellia_fold.specs.Fold.{fold, folded, last_offset, folded_back}
-use Rattle.camellia_subkeys.specs.Groups.{schedule_of}
-use Rattle.camellia_subkeys.specs.Slots.{slots_of, pair_at, six_at, whitening_at}
-use Rattle.camellia_subkeys.specs.Folded.{woven_groups, folded_of}
+use Rattle.camellia.specs.declared.plan.Slot.{Slot}
+use Rattle.camellia.specs.declared.plan.Layer.{Layer}
+use Rattle.camellia.specs.declared.plan.Layer.TheVariants.{Round}
+use Rattle.camellia_subkeys.specs.Groups.{rounds_of, group_of, layers_of}
+use Rattle.camellia_subkeys.specs.declared.keys.Group.{Group}
 use Rattle.camellia_subkeys.specs.declared.keys.Groups.{Groups}
 
-abbrev pub groups18 : Material → Groups
-groups18 m =
-    let ys = slots_of 18 in
-    record {
-      rounds = six_at m ys 4 ∷ six_at m ys 12 ∷ six_at m ys 20 ∷ replicate 6 0 ∷ [];
-      fls = pair_at m ys 10 ∷ pair_at m ys 18 ∷ replicate 2 0 ∷ [];
-      four = false;
-    }
+-- six keys, one by one
+pub one_by_one : (k : List ℕ) → length k ≡ 6
+    → k ≡ get_or k 0 0 ∷ get_or k 1 0 ∷ get_or k 2 0 ∷ get_or k 3 0 ∷ get_or k 4 0 ∷ get_or k 5 0 ∷ []
+one_by_one [] n = absurd (omega arith)
+one_by_one (a ∷ []) n = absurd (omega arith)
+one_by_one (a ∷ b ∷ []) n = absurd (omega arith)
+one_by_one (a ∷ b ∷ c ∷ []) n = absurd (omega arith)
+one_by_one (a ∷ b ∷ c ∷ d ∷ []) n = absurd (omega arith)
+one_by_one (a ∷ b ∷ c ∷ d ∷ e ∷ []) n = absurd (omega arith)
+one_by_one (a ∷ b ∷ c ∷ d ∷ e ∷ f ∷ []) n = refl
+one_by_one (a ∷ b ∷ c ∷ d ∷ e ∷ f ∷ g ∷ k) n = absurd (omega arith)
 
-abbrev pub groups24 : Material → Groups
-groups24 m =
-    let ys = slots_of 24 in
-    record {
-      rounds = six_at m ys 4 ∷ six_at m ys 12 ∷ six_at m ys 20 ∷ six_at m ys 28 ∷ [];
-      fls = pair_at m ys 10 ∷ pair_at m ys 18 ∷ pair_at m ys 26 ∷ [];
-      four = true;
-    }
+-- rounds under a plan are rounds of its subkeys
+pub planned : (m : Material) (k : List Slot) → map (layer_of m) (rounds_of k) ≡ rounds_of (map (subkey m) k)
+planned m [] = refl
+planned m (s ∷ k) = ap (λ ys. Round (subkey m s) ∷ ys) (planned m k)
 
-module _ (m : Material) where
-  pub grouped18 : schedule_of (folded_of (whitening_at m (slots_of 18)) (groups18 m)) ≡ fold (scheduled m whitening18 layers18)
-  unfolding schedule_of fold folded last_offset folded_back backward woven_groups
-  grouped18 = refl
+-- groups under a plan, part by part
+module _ (f : Layer Slot → Layer ℕ) where
+  pub record IsFourth (s : Option (Group Slot)) (k : Option (Group ℕ)) : Type 0 where
+    pub is : flat_map group_of (option_to_list k) ≡ map f (flat_map group_of (option_to_list s))
 
-  pub grouped24 : schedule_of (folded_of (whitening_at m (slots_of 24)) (groups24 m)) ≡ fold (scheduled m whitening24 layers24)
-  unfolding schedule_of fold folded last_offset folded_back backward woven_groups
-  grouped24 = refl
+  pub none : (s : Option (Group Slot)) → s ≡ None → IsFourth s None
+  none s e = record { is = rw e refl }
+
+  pub some : (s : Option (Group Slot)) (g : Group Slot) (h : Group ℕ) → s ≡ Some g → group_of h ≡ map f (group_of g) → IsFourth s (Some h)
+  some s g h e p = record { is = rw e (ap (λ ys. ys ++ []) p ∙ sym (map-append f (group_of g) [])) }
+
+  pub in_parts : (s : Groups Slot) (k : Groups ℕ) → rounds_of k.first ≡ map f (rounds_of s.first)
+      → group_of k.second ≡ map f (group_of s.second) → group_of k.third ≡ map f (group_of s.third) → IsFourth s.fourth k.fourth
+      → layers_of k ≡ map f (layers_of s)
+  in_parts s k first second third fourth = ap₂ ◌++◌ first (ap₂ ◌++◌ second (ap₂ ◌++◌ third fourth.is)) ∙ simp map-append
+
+pub backward-++ : (xs ys : List (Layer ℕ)) → backward (xs ++ ys) ≡ backward ys ++ backward xs
+unfolding backward
+backward-++ [] ys = sym (append-nil (backward ys))
+backward-++ (x ∷ xs) ys = ap (λ zs. zs ++ (turned x ∷ [])) (backward-++ xs ys) ∙ append_assoc (backward ys) (backward xs) (turned x ∷ [])
+
+-- the layers of three groups and of four, in order and in the reverse order
+module _ (g : Groups ℕ) where
+  pub three_groups : g.fourth ≡ None → layers_of g ≡ rounds_of g.first ++ (group_of g.second ++ group_of g.third)
+  three_groups e = ap (λ ys. rounds_of g.first ++ (group_of g.second ++ ys)) (rw (e, option_to_list) (append-nil (group_of g.third)))
+
+  pub four_groups : (h : Group ℕ) → g.fourth ≡ Some h
+      → layers_of g ≡ rounds_of g.first ++ (group_of g.second ++ (group_of g.third ++ group_of h))
+  four_groups h e =
+      ap (λ ys. rounds_of g.first ++ (group_of g.second ++ (group_of g.third ++ ys))) (rw (e, option_to_list) (append-nil (group_of h)))
+
+  pub three_groups_back : g.fourth ≡ None
+      → backward (layers_of g) ≡ (backward (group_of g.third) ++ backward (group_of g.second)) ++ backward (rounds_of g.first)
+  three_groups_back e = ap backward (three_groups e) ∙ simp backward-++
+
+  pub four_groups_back : (h : Group ℕ) → g.fourth ≡ Some h
+      → backward (layers_of g)
+      ≡ ((backward (group_of h) ++ backward (group_of g.third)) ++ backward (group_of g.second)) ++ backward (rounds_of g.first)
+  four_groups_back h e = ap backward (four_groups h e) ∙ simp backward-++

@@ -1,1 +1,1 @@
-mod Grouped
+pub mod Grouped

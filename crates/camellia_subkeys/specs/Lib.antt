@@ -1,3 +1,1 @@
 pub mod Groups
-pub mod Slots
-pub mod Folded

@@ -1,94 +1,92 @@
 // The fold of two whitening keys. An offset on one half moves through the layers: a round that reads that half takes it in
 // its key, and FL turns it into another offset. So kw2 goes down into kw3 and kw4 up into kw1, and a block takes only these.
-ghost use Rattle.std.specs.Prelude.{◌≡◌};
-ghost use Rattle.camellia_fold.specs.Fold.{through_fl_inverse};
-ghost use Rattle.camellia_subkeys.specs.Folded.{across_of, down_of, up_of, woven_of, woven_groups, woven_keys, folded_of};
+ghost use Rattle.std.specs.Prelude.{◌≡◌, length};
+ghost use Rattle.camellia_fold.specs.Fold.{through_fl_inverse, on_right, folded as folded_of, folded_back, fold};
+ghost use Rattle.camellia_subkeys.specs.Groups.{rounds_of, plain_of, schedule_of};
 
-use crate::keys::{FoldedKeys, Groups};
+use crate::keys::{FlKeys, FoldedKeys, Group, Groups, Subkeys};
 use camellia::plan::Whitening;
-use camellia_tables::half::{split, whole};
+use camellia_rounds::parts::Parts;
 
 // What an offset of the right half becomes under an FL layer: as FL's inverse, but an `or` keeps it only where the key is 0.
 fn through(d: u64, k: u64) -> u64
     ensures { result ≡ through_fl_inverse d k }
 {
-    let (dl, dr) = split(d);
-    let (kl, kr) = split(k);
-    let left = dr & !kr ^ dl;
-    whole((left, (left & kl).rotate_left(1) ^ dr))
-}
-
-// Through the third layer, where there is one.
-fn across(four: bool, d: u64, k: u64) -> u64
-    ensures { result ≡ across_of four d k }
-{
-    if four { through(d, k) } else { d }
-}
-
-// The offset from kw2 at each group; the last is what kw3 takes.
-fn offsets_down(kw2: u64, fls: &[[u64; 2]; 3], four: bool) -> [u64; 4]
-    ensures { result ≡ down_of kw2 fls.now four }
-{
-    let second = through(kw2, fls[0][1]);
-    let third = through(second, fls[1][1]);
-    [kw2, second, third, across(four, third, fls[2][1])]
-}
-
-// The offset from kw4 at each group; the first is what kw1 takes.
-fn offsets_up(kw4: u64, fls: &[[u64; 2]; 3], four: bool) -> [u64; 4]
-    ensures { result ≡ up_of kw4 fls.now four }
-{
-    let third = across(four, kw4, fls[2][0]);
-    let second = through(third, fls[1][0]);
-    [through(second, fls[0][0]), second, third, kw4]
+    let (d, k) = (Parts::from(d), Parts::from(k));
+    let left = d.right & !k.right ^ d.left;
+    let right = (left & k.left).rotate_left(1) ^ d.right;
+    Parts { left, right }.into()
 }
 
 // Going up, the offset stands on the half that odd rounds read; going down, even rounds read it.
-fn woven(k: &[u64; 6], up: u64, down: u64) -> [u64; 6]
-    ensures { result ≡ woven_of k.now up down }
+fn woven(rounds: &[u64; 6], up: u64, down: u64) -> [u64; 6]
+    ensures { rounds_of result ≡ folded_back (on_right up) (folded_of (on_right down) (rounds_of rounds.now)) }
 {
-    [
-        k[0] ^ up,
-        k[1] ^ down,
-        k[2] ^ up,
-        k[3] ^ down,
-        k[4] ^ up,
-        k[5] ^ down,
-    ]
+    let [a, b, c, d, e, f] = *rounds;
+    [a ^ up, b ^ down, c ^ up, d ^ down, e ^ up, f ^ down]
 }
 
-fn woven_groups(rounds: &[[u64; 6]; 4], up: &[u64; 4], down: &[u64; 4]) -> [[u64; 6]; 4]
-    ensures { result ≡ woven_groups rounds.now up.now down.now }
-{
-    [
-        woven(&rounds[0], up[0], down[0]),
-        woven(&rounds[1], up[1], down[1]),
-        woven(&rounds[2], up[2], down[2]),
-        woven(&rounds[3], up[3], down[3]),
-    ]
-}
+impl FlKeys<u64> {
+    // What an offset becomes under this layer on its way down from kw2.
+    fn down(&self, d: u64) -> u64
+        ensures { result ≡ through_fl_inverse d self.now.right }
+    {
+        through(d, self.right)
+    }
 
-// The keys with the offsets in them.
-fn weave(kw: &Whitening<u64>, g: &Groups, up: &[u64; 4], down: &[u64; 4]) -> FoldedKeys
-    ensures { result ≡ woven_keys kw.now g.now up.now down.now }
-{
-    let groups = Groups {
-        rounds: woven_groups(&g.rounds, up, down),
-        fls: g.fls,
-        four: g.four,
-    };
-    FoldedKeys {
-        kw1: kw.kw1 ^ up[0],
-        kw3: kw.kw3 ^ down[3],
-        groups,
+    // And on its way up from kw4.
+    fn up(&self, d: u64) -> u64
+        ensures { result ≡ through_fl_inverse d self.now.left }
+    {
+        through(d, self.left)
     }
 }
 
-// R, the number of rounds, makes two functions of it: with one caller each, both are compiled into it.
-pub(crate) fn folded<const R: usize>(kw: &Whitening<u64>, g: &Groups) -> FoldedKeys
-    ensures { result ≡ folded_of kw.now g.now }
-{
-    let down = offsets_down(kw.kw2, &g.fls, g.four);
-    let up = offsets_up(kw.kw4, &g.fls, g.four);
-    weave(kw, g, &up, &down)
+impl Group<u64> {
+    fn woven(&self, up: u64, down: u64) -> Self
+        ensures fl { result.fl ≡ self.now.fl }
+        ensures six { length self.now.rounds ≡ 6 }
+        ensures rounds { rounds_of result.rounds ≡ folded_back (on_right up) (folded_of (on_right down) (rounds_of self.now.rounds)) }
+    {
+        Group {
+            fl: self.fl,
+            rounds: woven(&self.rounds, up, down),
+        }
+    }
+}
+
+impl Subkeys<u64> {
+    #[inline(always)]
+    pub(crate) fn folded(&self) -> FoldedKeys
+        ensures { schedule_of result ≡ fold (plain_of self.now) }
+    {
+        let Whitening { kw1, kw2, kw3, kw4 } = self.kw;
+        let Groups {
+            first,
+            second,
+            third,
+            fourth,
+        } = &self.groups;
+        let second_down = second.fl.down(kw2);
+        let third_down = third.fl.down(second_down);
+        let (fourth, third_up, down) = match fourth {
+            None => (None, kw4, third_down),
+            Some(fourth) => {
+                let down = fourth.fl.down(third_down);
+                (Some(fourth.woven(kw4, down)), fourth.fl.up(kw4), down)
+            }
+        };
+        let second_up = third.fl.up(third_up);
+        let up = second.fl.up(second_up);
+        FoldedKeys {
+            kw1: kw1 ^ up,
+            kw3: kw3 ^ down,
+            groups: Groups {
+                first: woven(first, up, kw2),
+                second: second.woven(second_up, second_down),
+                third: third.woven(third_up, third_down),
+                fourth,
+            },
+        }
+    }
 }

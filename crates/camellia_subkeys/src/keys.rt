@@ -1,9 +1,33 @@
-// Six rounds, the two keys of an FL layer, six rounds, and so on; only 24 rounds have a third layer and a fourth six.
+use camellia::plan::Whitening;
+
+// The keys of an FL layer: FL's on the left half, its inverse's on the right.
 #[derive(Clone, Copy)]
-pub struct Groups {
-    pub rounds: [[u64; 6]; 4],
-    pub fls: [[u64; 2]; 3],
-    pub four: bool,
+pub struct FlKeys<K> {
+    pub left: K,
+    pub right: K,
+}
+
+// An FL layer and the six rounds after it.
+#[derive(Clone, Copy)]
+pub struct Group<K> {
+    pub fl: FlKeys<K>,
+    pub rounds: [K; 6],
+}
+
+// Six rounds, and then two or three groups: 18 or 24 rounds.
+#[derive(Clone, Copy)]
+pub struct Groups<K> {
+    pub first: [K; 6],
+    pub second: Group<K>,
+    pub third: Group<K>,
+    pub fourth: Option<Group<K>>,
+}
+
+// All subkeys of a key, or where each of them comes from.
+#[derive(Clone, Copy)]
+pub struct Subkeys<K> {
+    pub kw: Whitening<K>,
+    pub groups: Groups<K>,
 }
 
 // The subkeys after the fold: only kw1 and kw3 are added to a block.
@@ -11,5 +35,5 @@ pub struct Groups {
 pub struct FoldedKeys {
     pub kw1: u64,
     pub kw3: u64,
-    pub groups: Groups,
+    pub groups: Groups<u64>,
 }

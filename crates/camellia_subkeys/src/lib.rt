@@ -3,7 +3,6 @@
 
 mod fold;
 pub mod keys;
-pub mod material;
+mod plans;
 mod schedule;
-mod slots;
 mod subkeys;

@@ -1,48 +1,66 @@
-// The subkeys that the tables take from the four sources.
-ghost use Rattle.std.specs.Prelude.{◌≡◌, ◌+◌, ◌<◌, ◌≤◌, length};
-ghost use Rattle.camellia_subkeys.specs.Slots.{slots_of, key_at, pair_at, six_at, whitening_at};
+// The subkeys that a plan takes from the four sources. Compiled into each caller, where the plan is known, no slot is looked at.
+ghost use Rattle.std.specs.Prelude.{◌≡◌, map};
+ghost use Rattle.camellia.specs.Keys.{subkey as subkey_of, layer_of, scheduled};
+ghost use Rattle.camellia_subkeys.specs.Groups.{group_of, layers_of, plain_of};
 
-use crate::slots::slots;
-use camellia::plan::{Material, Whitening};
+use crate::keys::{FlKeys, Group, Groups, Subkeys};
+use camellia::plan::{Material, Slot, Whitening};
 use camellia_rounds::subkey::subkey;
 
-// The only reader of the tables: at a constant place the compiler computes the slot away.
-fn key_at<const R: usize>(m: &Material, i: usize) -> u64
-    requires { i < length (slots_of R) }
-    ensures { result ≡ key_at m.now (slots_of R) i }
+#[inline(always)]
+fn rounds(slots: &[Slot; 6], m: &Material) -> [u64; 6]
+    ensures { result ≡ map (subkey_of m.now) slots.now }
 {
-    subkey(m, slots::<R>()[i])
-}
-
-pub(crate) fn pair_at<const R: usize, const I: usize>(m: &Material) -> [u64; 2]
-    requires { I + 2 ≤ length (slots_of R) }
-    ensures { result ≡ pair_at m.now (slots_of R) I }
-{
-    [key_at::<R>(m, I), key_at::<R>(m, I + 1)]
-}
-
-pub(crate) fn six_at<const R: usize, const I: usize>(m: &Material) -> [u64; 6]
-    requires { I + 6 ≤ length (slots_of R) }
-    ensures { result ≡ six_at m.now (slots_of R) I }
-{
+    let [a, b, c, d, e, f] = *slots;
     [
-        key_at::<R>(m, I),
-        key_at::<R>(m, I + 1),
-        key_at::<R>(m, I + 2),
-        key_at::<R>(m, I + 3),
-        key_at::<R>(m, I + 4),
-        key_at::<R>(m, I + 5),
+        subkey(m, a),
+        subkey(m, b),
+        subkey(m, c),
+        subkey(m, d),
+        subkey(m, e),
+        subkey(m, f),
     ]
 }
 
-pub(crate) fn whitening_at<const R: usize>(m: &Material) -> Whitening<u64>
-    requires { 4 ≤ length (slots_of R) }
-    ensures { result ≡ whitening_at m.now (slots_of R) }
+#[inline(always)]
+fn group(slots: &Group<Slot>, m: &Material) -> Group<u64>
+    ensures { group_of result ≡ map (layer_of m.now) (group_of slots.now) }
 {
-    Whitening {
-        kw1: key_at::<R>(m, 0),
-        kw2: key_at::<R>(m, 1),
-        kw3: key_at::<R>(m, 2),
-        kw4: key_at::<R>(m, 3),
+    Group {
+        fl: FlKeys {
+            left: subkey(m, slots.fl.left),
+            right: subkey(m, slots.fl.right),
+        },
+        rounds: rounds(&slots.rounds, m),
+    }
+}
+
+#[inline(always)]
+fn groups(slots: &Groups<Slot>, m: &Material) -> Groups<u64>
+    ensures { layers_of result ≡ map (layer_of m.now) (layers_of slots.now) }
+{
+    Groups {
+        first: rounds(&slots.first, m),
+        second: group(&slots.second, m),
+        third: group(&slots.third, m),
+        fourth: match &slots.fourth {
+            None => None,
+            Some(fourth) => Some(group(fourth, m)),
+        },
+    }
+}
+
+#[inline(always)]
+pub(crate) fn subkeys(plan: &Subkeys<Slot>, m: &Material) -> Subkeys<u64>
+    ensures { plain_of result ≡ scheduled m.now plan.now.kw (layers_of plan.now.groups) }
+{
+    Subkeys {
+        kw: Whitening {
+            kw1: subkey(m, plan.kw.kw1),
+            kw2: subkey(m, plan.kw.kw2),
+            kw3: subkey(m, plan.kw.kw3),
+            kw4: subkey(m, plan.kw.kw4),
+        },
+        groups: groups(&plan.groups, m),
     }
 }

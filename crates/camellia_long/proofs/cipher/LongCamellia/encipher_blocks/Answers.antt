@@ -1,0 +1,5 @@
+use Rattle.camellia_long.proofs.Each.{through}
+use Rattle.camellia_long.proofs.cipher.LongCamellia.encipher_blocks.Goals as goal
+
+pub returns : goal.returns
+returns g c = through _ c.args.blocks.now _ _ _ c.of-halves.ensures c.encrypt.ensures c.put.ensures
