@@ -75,6 +75,8 @@ itself s x k le e =
     ∙ ap (λ m. take m (drop (k * 128) (put_mid (k * 128) 128 s x))) (sym n)
     ∙ between-put_mid (k * 128) 128 s x (k * 128 + 128) le (e ∙ sym n)
 
+pub ruleset slots = (length-frames_in, get_or-frames_in, passed, slot_fits, nat_tests)
+
 -- where each frame has a slot of its own among them
 module _ (slot : ℕ → ℕ) (s : List ℕ) (among : (n : ℕ) → n < frame_count (length s) → slot n < frame_count (length s)) where
   pub framed : Bytes s → (n : ℕ) → n < length (frames_in slot s) → Frame (slice_index_or (frames_in slot s) n [])
@@ -105,3 +107,16 @@ module _ (slot : ℕ → ℕ) (s : List ℕ) (among : (n : ℕ) → n < frame_co
         (λ (ne : j ≢ k). get_or-set_other (frames_in slot s) k j x [] ne ∙ get_or-frames_in slot s j lt
         ∙ sym (other s x (slot k) (slot j) (λ same. ne (own j lt same)) le long))
         (cases_eq j k)))
+
+-- an image, given the slot of each of so many frames, with another frame in one of the slots
+pub frames_written : (order : ℕ → ℕ → ℕ) (s x t : List ℕ) (k : ℕ) → k < frame_count (length s) → length x ≡ 128
+    → ((j : ℕ) → j < frame_count (length s) → order (frame_count (length s)) j < frame_count (length s))
+    → ((j : ℕ) → j < frame_count (length s) → order (frame_count (length s)) j ≡ order (frame_count (length s)) k → j ≡ k)
+    → t ≡ placed s (order (frame_count (length s)) k) x
+    → frames_in (order (frame_count (length t))) t ≡ slice_set (frames_in (order (frame_count (length s))) s) k x
+frames_written order s x t k lt long among own there =
+    let slot = order (frame_count (length s)) in
+    let f = slot_fits (length s) (slot k) (among k lt) in
+    ap (λ u. frames_in (order (frame_count (length u))) u) there
+    ∙ ap (λ len. frames_in (order (frame_count len)) (placed s (slot k) x)) (length-placed s x (slot k) f.1 long)
+    ∙ frames_in-placed slot s among x k lt long own
