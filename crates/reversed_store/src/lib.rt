@@ -72,7 +72,7 @@ impl Store for ReversedImage {
         self.image.read(slot, buffer)
     }
 
-    #[tactic(auto, using(store::specs::Slots::slots))]
+    #[tactic(auto, using(store::specs::Slots::slots, crate::proofs::Back::frames_back_placed))]
     fn write(&mut self, n: u64, buffer: &[u8]) -> Result<(), Refusal> {
         self.check(n, buffer.len())?;
         let slot = self.slot(n);

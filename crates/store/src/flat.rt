@@ -59,7 +59,7 @@ impl Store for FlatImage {
         Ok(())
     }
 
-    #[tactic(auto, using(crate::specs::Slots::slots))]
+    #[tactic(auto, using(crate::specs::Slots::slots, crate::specs::Slots::writes))]
     fn write(&mut self, n: u64, buffer: &[u8]) -> Result<(), Refusal> {
         self.check(n, buffer.len())?;
         self.bytes[frame::slot(n)].copy_from_slice(buffer);
