@@ -1,2 +1,1 @@
-mod PairKeys
 mod Writes

@@ -1,4 +1,5 @@
 // Frames of a store: written, read, moved to another pair, and made new.
+// No struct of store and pair: a card lends other pairs to each call, so each call would build it.
 ghost use Rattle.std.specs.Prelude.{◌≡◌, ℕ, ◌-◌, ◌<◌, false, [], length, slice_index_or};
 ghost use Rattle.law.specs.Store.{unworn_to};
 ghost use Rattle.law.specs.Model.{put as put_of, resealed, cleared_to};
@@ -30,9 +31,9 @@ pub fn reseal<E: Engine, S: Store>(old: &Pair<E>, new: &Pair<E>, store: &mut S, 
     ensures { store_in S.Store store.new ≡ resealed (keys_in E.Engine old.now) (keys_in E.Engine new.now) n (store_in S.Store store.old) }
 {
     let mut bytes = [0; 128];
-    if let Err(_) = store.read(n, &mut bytes) {
+    let Ok(()) = store.read(n, &mut bytes) else {
         return;
-    }
+    };
     keys::open(old, n, &mut bytes);
     keys::seal(new, n, &mut bytes);
     put(store, n, &bytes);
@@ -45,6 +46,7 @@ pub fn clear<E: Engine, S: Store>(pair: &Pair<E>, store: &mut S) -> u64
     ensures worn { S.Store.worn store.new ≡ S.Store.worn store.old }
 {
     let count = store.count();
+    // Counted here, since a filter by `is_worn` would borrow the store that the loop writes.
     let mut sealed = 0;
     for n in 1..count {
         if !store.is_worn(n) {

@@ -11,11 +11,12 @@ use Rattle.std.proofs.lemmas.List.{drop-drop, get_or-set_same, get_or-set_other,
 use Rattle.std.proofs.lemmas.Slice.{between_is, between-put_mid, drop-put_mid, take-put_mid_below}
 use Rattle.std.proofs.lemmas.Bool.{cases_eq, cases_order}
 use Rattle.std.proofs.lemmas.Bool.Decides.{nat_tests}
+use Rattle.std.proofs.lemmas.Grind.{common_steps}
 use Rattle.refusal.specs.declared.Refusal.{Refusal}
 use Rattle.octets.specs.Octets.{Bytes, Frame}
 use Rattle.octets.proofs.Bytes.{take-bytes, drop-bytes, append-bytes}
 use Rattle.store.specs.Answers.{call_answer}
-use Rattle.store.specs.Frames.{frame_count, frame_at, placed, frames_in}
+use Rattle.store.specs.Frames.{frame_count, frame_at, placed, frames_in, in_order, flat_frames}
 
 pub length-frames_in : (slot : ℕ → ℕ) (s : List ℕ) → length (frames_in slot s) ≡ frame_count (length s)
 unfolding frames_in
@@ -75,6 +76,8 @@ itself s x k le e =
     ∙ ap (λ m. take m (drop (k * 128) (put_mid (k * 128) 128 s x))) (sym n)
     ∙ between-put_mid (k * 128) 128 s x (k * 128 + 128) le (e ∙ sym n)
 
+pub ruleset slots = (length-frames_in, get_or-frames_in, passed, slot_fits, nat_tests)
+
 -- where each frame has a slot of its own among them
 module _ (slot : ℕ → ℕ) (s : List ℕ) (among : (n : ℕ) → n < frame_count (length s) → slot n < frame_count (length s)) where
   pub framed : Bytes s → (n : ℕ) → n < length (frames_in slot s) → Frame (slice_index_or (frames_in slot s) n [])
@@ -105,3 +108,20 @@ module _ (slot : ℕ → ℕ) (s : List ℕ) (among : (n : ℕ) → n < frame_co
         (λ (ne : j ≢ k). get_or-set_other (frames_in slot s) k j x [] ne ∙ get_or-frames_in slot s j lt
         ∙ sym (other s x (slot k) (slot j) (λ same. ne (own j lt same)) le long))
         (cases_eq j k)))
+
+-- a frame written in its slot of an image whose frames stand in this order
+pub frames_placed : (order : ℕ → ℕ → ℕ) (s x : List ℕ) (k : ℕ) → k < frame_count (length s) → length x ≡ 128
+    → ((j : ℕ) → j < frame_count (length s) → order (frame_count (length s)) j < frame_count (length s))
+    → ((j : ℕ) → j < frame_count (length s) → order (frame_count (length s)) j ≡ order (frame_count (length s)) k → j ≡ k)
+    → slice_set (frames_in (order (frame_count (length s))) s) k x
+    ≡ (let t = placed s (order (frame_count (length s)) k) x in frames_in (order (frame_count (length t))) t)
+frames_placed order s x k lt long among own =
+    let slot = order (frame_count (length s)) in
+    let f = slot_fits (length s) (slot k) (among k lt) in
+    sym (ap (λ len. frames_in (order (frame_count len)) (placed s (slot k) x)) (length-placed s x (slot k) f.1 long)
+    ∙ frames_in-placed slot s among x k lt long own)
+
+pub flat_frames_placed : (s x : List ℕ) (k : ℕ) → k < frame_count (length s) → length x ≡ 128 → slice_set (flat_frames s) k x ≡ flat_frames (placed s k x)
+flat_frames_placed s x k lt long = frames_placed (λ count. in_order) s x k lt long (λ j h. h) (λ j h e. e)
+
+pub ruleset writes = (common_steps, flat_frames_placed)
