@@ -4,7 +4,7 @@ ghost use Rattle.std.specs.Prelude.{codes, MatchOption};
 ghost use Rattle.label_lines.specs.Lines.{Values, LinesOf};
 ghost use Rattle.label_lines.specs.Held.{Cuts, held};
 
-use crate::lines::Lines;
+use crate::lines::{FILLING, Lines};
 
 fn cipher_line(text: &[u8]) -> Option<([u8; 8], &[u8])>
     ensures { Cuts text.now (codes "cipher") 8 result }
@@ -165,7 +165,7 @@ impl Lines {
         let (check, rest) = check_line(rest)?;
         let (next, rest) = next_line(rest)?;
         let (moved, rest) = moved_line(rest)?;
-        if rest != [0; 48].as_slice() {
+        if rest != FILLING {
             return None;
         }
         Some(Lines {

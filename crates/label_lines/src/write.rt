@@ -5,7 +5,7 @@ ghost use Rattle.text_lines.specs.Line.{line};
 ghost use Rattle.label_lines.specs.Lines.{laid};
 ghost use Rattle.label_lines.specs.Held.{held};
 
-use crate::lines::Lines;
+use crate::lines::{FILLING, Lines};
 use arrayvec::ArrayVec;
 
 fn append(text: &mut ArrayVec<u8, 128>, part: &[u8])
@@ -40,7 +40,7 @@ impl Lines {
         append_line(&mut text, b"check", &self.check);
         append_line(&mut text, b"next", &self.next);
         append_line(&mut text, b"moved", &self.moved);
-        append(&mut text, &[0; 48]);
+        append(&mut text, FILLING);
         text.into_inner().unwrap()
     }
 }

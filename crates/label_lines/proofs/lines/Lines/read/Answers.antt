@@ -1,4 +1,4 @@
-use Rattle.std.proofs.Common.{sym, refl, ◌∙◌}
+use Rattle.std.proofs.Common.{replicate, sym, refl, ◌∙◌}
 use Rattle.std.proofs.lemmas.Bool.{both_ways, not-true, not-false}
 use Rattle.std.proofs.lemmas.Bool.Decides.{Decides-eqb}
 use Rattle.std.proofs.lemmas.Slice.Eq.{slice_eq-Decides}
@@ -36,7 +36,7 @@ pub returns-then-ne : goal.returns-then-ne
 returns-then-ne c = λ v h.
     let left = past-moved c.in_ok-cipher.ensures c.in_ok-keybits.ensures c.in_ok-frames.ensures c.in_ok-check.ensures c.in_ok-next.ensures c.in_ok-moved.ensures in
     let other = not-true _ (sym c.ne.ensures ∙ c.if-ne.true) in
-    both_ways _ other ((slice_eq-Decides Decides-eqb c.in_ok-moved.rest.now c.as_slice.result.now _ refl).1 (left v h ∙ sym c.as_slice.ensures))
+    both_ways _ other ((slice_eq-Decides Decides-eqb c.in_ok-moved.rest.now (replicate 48 0) _ refl).1 (left v h))
 
 pub returns : goal.returns
 returns c =
@@ -47,4 +47,4 @@ returns c =
     c.in_ok-check.ensures
     c.in_ok-next.ensures
     c.in_ok-moved.ensures
-    ((slice_eq-Decides Decides-eqb c.in_ok-moved.rest.now c.as_slice.result.now _ refl).0 (not-false _ (sym c.ne.ensures ∙ c.if-ne.false)) ∙ c.as_slice.ensures)
+    ((slice_eq-Decides Decides-eqb c.in_ok-moved.rest.now (replicate 48 0) _ refl).0 (not-false _ (sym c.ne.ensures ∙ c.if-ne.false)))
