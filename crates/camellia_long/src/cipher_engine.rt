@@ -1,5 +1,5 @@
 // The cipher under one key: load a key, encipher and decipher a block or a frame's eight.
-ghost use Rattle.std.specs.Prelude.{codes};
+ghost use Rattle.std.specs.Prelude.{[], ◌∷◌, codes};
 ghost use Rattle.camellia.specs.Cipher.{E, D};
 ghost use Rattle.camellia.specs.Laws.{takes as takes_of};
 ghost use Rattle.camellia_long.specs.Told.{enciphers_of, deciphers_of};
@@ -10,20 +10,20 @@ ghost use Rattle.std.proofs.Common.{rules};
 use crate::bytes::{join, split};
 use crate::cipher::LongCamellia;
 use crate::eight::{decrypt_eight, encrypt_eight};
-use crate::keys::{LENGTHS, keys_of, takes};
+use crate::keys::keys_of;
 use crate::one::{decrypt_one, encrypt_one};
 use crate::zero::zero_keys;
 use engine::Engine;
 use refusal::Refusal;
 
-const CIPHER_NAME: [u8; 8] = *b"camellia";
-
 impl Engine for LongCamellia {
-    const NAME: [u8; 8] = CIPHER_NAME;
+    ghost NAME = { codes "camellia" };
 
-    const KEY_LENGTHS: [usize; 3] = LENGTHS;
+    const NAME: [u8; 8] = *b"camellia";
 
-    ghost name = { codes "camellia" };
+    ghost KEY_LENGTHS = { 16 ∷ 24 ∷ 32 ∷ [] };
+
+    const KEY_LENGTHS: [usize; 3] = [16, 24, 32];
 
     ghost takes = { takes_of };
 
@@ -37,6 +37,8 @@ impl Engine for LongCamellia {
 
     ghost lettered = { Prim.search rules };
 
+    ghost listed = { Prim.search rules };
+
     ghost sixteen = { Prim.search rules };
 
     ghost undone = { (Whole.undone).forth };
@@ -47,20 +49,12 @@ impl Engine for LongCamellia {
 
     ghost deciphered_blocks = { sized.deciphers };
 
-    fn cipher_name() -> [u8; 8] {
-        CIPHER_NAME
-    }
-
-    fn accepts(len: usize) -> bool {
-        takes(len)
-    }
-
     fn new() -> Self {
         LongCamellia { keys: zero_keys() }
     }
 
     fn load(&mut self, key: &[u8]) -> Result<(), Refusal> {
-        if !takes(key.len()) {
+        if !Self::accepts(key.len()) {
             return Err(Refusal::KeyLength);
         }
         self.keys = keys_of(key);

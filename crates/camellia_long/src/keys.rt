@@ -10,15 +10,6 @@ use crate::bytes::{half_at, halves_at};
 use camellia_rounds::bytes::joined;
 use camellia_subkeys::keys::FoldedKeys;
 
-pub(crate) const LENGTHS: [usize; 3] = [16, 24, 32];
-
-// Whether a key of this length is taken.
-pub(crate) fn takes(len: usize) -> bool
-    ensures { result ≡ takes_of len }
-{
-    len == LENGTHS[0] || len == LENGTHS[1] || len == LENGTHS[2]
-}
-
 fn schedule_of(key: &[u8]) -> FoldedKeys
     requires { takes_of (length key.now) ≡ true }
     ensures { schedule_of result ≡ fold (schedule key.now) }

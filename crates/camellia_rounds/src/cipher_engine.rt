@@ -1,5 +1,5 @@
 // The cipher under one key: load a key, encipher and decipher a block.
-ghost use Rattle.std.specs.Prelude.{◌≡◌, true, length, codes};
+ghost use Rattle.std.specs.Prelude.{◌≡◌, true, [], ◌∷◌, length, codes};
 ghost use Rattle.camellia.specs.Keys.{schedule};
 ghost use Rattle.camellia.specs.Cipher.{to_state, to_bytes, E, D};
 ghost use Rattle.camellia.specs.Laws.{takes as takes_of};
@@ -17,11 +17,6 @@ use crate::schedule::Schedule;
 use engine::Engine;
 use refusal::Refusal;
 use std::marker::PhantomData;
-
-// Read through constants of the module: of an associated constant of a generic impl a proof knows no value.
-const CIPHER_NAME: [u8; 8] = *b"camellia";
-
-const LENGTHS: [usize; 3] = [16, 24, 32];
 
 fn schedule_of<H: Half>(key: &[u8]) -> Schedule
     requires { takes_of (length key.now) ≡ true }
@@ -53,11 +48,13 @@ fn join<H: Half>(s: Halves<H>) -> [u8; 16]
 }
 
 impl<H: Half> Engine for Camellia<H> {
-    const NAME: [u8; 8] = CIPHER_NAME;
+    ghost NAME = { codes "camellia" };
 
-    const KEY_LENGTHS: [usize; 3] = LENGTHS;
+    const NAME: [u8; 8] = *b"camellia";
 
-    ghost name = { codes "camellia" };
+    ghost KEY_LENGTHS = { 16 ∷ 24 ∷ 32 ∷ [] };
+
+    const KEY_LENGTHS: [usize; 3] = [16, 24, 32];
 
     ghost takes = { takes_of };
 
@@ -71,6 +68,8 @@ impl<H: Half> Engine for Camellia<H> {
 
     ghost lettered = { Prim.search rules };
 
+    ghost listed = { Prim.search rules };
+
     ghost sixteen = { Prim.search rules };
 
     ghost undone = { (Whole.undone).forth };
@@ -80,14 +79,6 @@ impl<H: Half> Engine for Camellia<H> {
     ghost enciphered_blocks = { sized.enciphers };
 
     ghost deciphered_blocks = { sized.deciphers };
-
-    fn cipher_name() -> [u8; 8] {
-        CIPHER_NAME
-    }
-
-    fn accepts(len: usize) -> bool {
-        len == LENGTHS[0] || len == LENGTHS[1] || len == LENGTHS[2]
-    }
 
     fn new() -> Self {
         Camellia {

@@ -113,7 +113,7 @@ impl<E: Engine + Drop, S: Store> Card<E, S> {
         let Some(label) = Label::read(&frames::fetch(&self.store, 0)) else {
             return Err(Refusal::NotLabel);
         };
-        if !equal(&label.cipher, &E::cipher_name()) || label.frames as u64 != count {
+        if !equal(&label.cipher, &E::NAME) || label.frames as u64 != count {
             return Err(Refusal::OtherCard);
         }
         if !fits(&label, pair, second) {

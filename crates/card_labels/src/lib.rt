@@ -18,13 +18,13 @@ use sealing::pair::Pair;
 
 // Of a pair of so many bytes. A card has a label and a data frame at least, and 1,024 frames at most.
 pub fn made<E: Engine>(len: usize, frames: u64, pair: &Pair<E>) -> Option<Label>
-    ensures { fields_in result ≡ made_fields E.Engine.name len frames (check_of (keys_in E.Engine pair.now)) }
+    ensures { fields_in result ≡ made_fields E.Engine.NAME len frames (check_of (keys_in E.Engine pair.now)) }
 {
     let keybits = key_bits(len)?;
     if frames < 2 || frames > 1024 {
         return None;
     }
-    let cipher = E::cipher_name();
+    let cipher = E::NAME;
     let check = keys::check_value(pair);
     octets(&check);
     Some(Label {

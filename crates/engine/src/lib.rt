@@ -2,18 +2,22 @@
 #![tactic(auto)]
 
 ghost use Rattle.std.specs.Prelude.{◌≡◌, ℕ, Bool, true, false, List, map, length, replicate};
-ghost use Rattle.engine.specs.Kind.{EightLetters, Undoes, Blocks, load_answer};
+ghost use Rattle.engine.specs.Kind.{EightLetters, Listed, Undoes, Blocks, load_answer};
 
 use refusal::Refusal;
 
 pub trait Engine: Sized {
+    // of the kind: its name in eight letters, and the key lengths that it takes
+    ghost NAME: { List ℕ };
+
     const NAME: [u8; 8];
-    // a kind that takes fewer than three lengths names one of them again
+
+    // one that takes fewer than three lengths names one of them again
+    ghost KEY_LENGTHS: { List ℕ };
+
     const KEY_LENGTHS: [usize; 3];
 
-    // of the kind: its name, the key lengths that it takes, and E and D of any key
-    ghost name: { List ℕ };
-
+    // of the kind: whether it takes keys of a length, and E and D of any key
     ghost takes: { ℕ → Bool };
 
     ghost cipher: { List ℕ → List ℕ → List ℕ };
@@ -25,12 +29,11 @@ pub trait Engine: Sized {
 
     ghost deciphers: { Self → List ℕ → List ℕ };
 
-    // The constants, for code that is generic in the engine: a proof knows them only by these.
-    fn cipher_name() -> [u8; 8]
-        ensures { result ≡ name };
-
     fn accepts(len: usize) -> bool
-        ensures { result ≡ takes len };
+        ensures { result ≡ takes len }
+    {
+        Self::KEY_LENGTHS.contains(&len)
+    }
 
     // A new engine holds sixteen zero bytes.
     fn new() -> Self
@@ -50,6 +53,7 @@ pub trait Engine: Sized {
         ensures { block.new ≡ deciphers self.now block.old };
 
     // The eight blocks of a frame at once; an engine that gains by it writes its own.
+    // Two bodies, one for each way: one body would take the way as a closure and be longer than both.
     fn encipher_eight(&self, blocks: &mut [[u8; 16]; 8])
         ensures { blocks.new ≡ map (enciphers self.now) blocks.old }
     {
@@ -66,7 +70,9 @@ pub trait Engine: Sized {
         }
     }
 
-    ghost lettered: { EightLetters name };
+    ghost lettered: { EightLetters NAME };
+
+    ghost listed: { Listed takes KEY_LENGTHS };
 
     ghost sixteen: { takes 16 ≡ true };
 

@@ -11,7 +11,7 @@ use Rattle.law.specs.Checks.{Check}
 use Rattle.law.specs.Store.{Store}
 
 abbrev pub kind_of : {E : Type 0} → engine.Ghosts E → Kind
-kind_of e = record { name = e.name; takes = e.takes; cipher = e.cipher; inverse = e.inverse }
+kind_of e = record { name = e.NAME; takes = e.takes; cipher = e.cipher; inverse = e.inverse }
 
 abbrev pub keys_in : {E : Type 0} → engine.Ghosts E → Pair E → Keys
 keys_in e p = record { enciphers = e.enciphers p.cipher; deciphers = e.deciphers p.cipher; tweaks = e.enciphers p.tweak }

@@ -1,7 +1,7 @@
 // An engine for tests of generic code: it hands its block back, which is a lawful cipher, and no Camellia.
 #![tactic(auto)]
 
-ghost use Rattle.std.specs.Prelude.{◌||◌, codes, ◌==◌};
+ghost use Rattle.std.specs.Prelude.{[], ◌∷◌, ◌||◌, codes, ◌==◌};
 ghost use Rattle.std.proofs.Common.{rules};
 
 use engine::Engine;
@@ -10,16 +10,14 @@ use refusal::Refusal;
 #[derive(Drop)]
 pub struct Identity;
 
-const CIPHER_NAME: [u8; 8] = *b"identity";
-
-const LENGTHS: [usize; 3] = [16, 24, 16];
-
 impl Engine for Identity {
-    const NAME: [u8; 8] = CIPHER_NAME;
+    ghost NAME = { codes "identity" };
 
-    const KEY_LENGTHS: [usize; 3] = LENGTHS;
+    const NAME: [u8; 8] = *b"identity";
 
-    ghost name = { codes "identity" };
+    ghost KEY_LENGTHS = { 16 ∷ 24 ∷ 16 ∷ [] };
+
+    const KEY_LENGTHS: [usize; 3] = [16, 24, 16];
 
     ghost takes = { λ n. (n == 16) || n == 24 };
 
@@ -33,6 +31,8 @@ impl Engine for Identity {
 
     ghost lettered = { Prim.search rules };
 
+    ghost listed = { Prim.search rules };
+
     ghost sixteen = { Prim.search rules };
 
     ghost undone = { Prim.search rules };
@@ -42,14 +42,6 @@ impl Engine for Identity {
     ghost enciphered_blocks = { Prim.search rules };
 
     ghost deciphered_blocks = { Prim.search rules };
-
-    fn cipher_name() -> [u8; 8] {
-        CIPHER_NAME
-    }
-
-    fn accepts(len: usize) -> bool {
-        len == LENGTHS[0] || len == LENGTHS[1] || len == LENGTHS[2]
-    }
 
     fn new() -> Self {
         Identity

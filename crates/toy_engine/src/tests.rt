@@ -9,7 +9,7 @@ fn refuses<E: Engine + Drop>(key: &[u8]) -> bool {
 
 #[test]
 fn generic_code_sees_the_name_and_the_lengths(rt: HostRuntime) {
-    assert!(rt; Identity::cipher_name() == *b"identity");
+    assert!(rt; Identity::NAME == *b"identity");
     assert!(rt; Identity::accepts(16) && Identity::accepts(24) && !Identity::accepts(32));
     assert!(rt; !refuses::<Identity>(&[0; 16]));
     assert!(rt; refuses::<Identity>(&[0; 32]));

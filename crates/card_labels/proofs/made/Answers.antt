@@ -9,7 +9,7 @@ pub invariant_of-result : goal.invariant_of-result
 invariant_of-result g c =
     let e = c.check_value-check.ensures in
     record {
-      named = (lettered_decides _).1 (subst EightLetters (sym c.cipher_name-cipher.ensures) g.met.E.Engine.lettered);
+      named = (lettered_decides _).1 (subst EightLetters (sym c.NAME-cipher.ensures) g.met.E.Engine.lettered);
       counted = (omega arith, omega arith);
       checked = (ap length e ∙ check-long _, c.octets.ensures);
       nexted = λ b x. absurd (false≢true (ap is_some x));
