@@ -24,7 +24,7 @@ fn framed(text: &[u8]) -> [u8; 128] {
 }
 
 // What became of labels with a byte changed.
-#[derive(Clone, Copy, PartialEq, Eq, Debug)]
+#[derive(Clone, Copy, PartialEq, Eq, Debug, Default)]
 struct Tally {
     refused: u32,
     other_label: u32,
@@ -47,11 +47,7 @@ impl Tally {
 }
 
 fn with_a_byte_changed(text: &[u8]) -> Tally {
-    let mut tally = Tally {
-        refused: 0,
-        other_label: 0,
-        wrong: 0,
-    };
+    let mut tally = Tally::default();
     let mut frame = framed(text);
     for at in 0..128usize {
         let byte = frame[at];
@@ -134,4 +130,7 @@ fn a_pair_has_two_keys_of_a_size(rt: HostRuntime) {
     assert!(rt; KeyBits::of_pair(48) == Some(KeyBits::K192));
     assert!(rt; KeyBits::of_pair(64) == Some(KeyBits::K256));
     assert!(rt; KeyBits::of_pair(0).is_none() && KeyBits::of_pair(33).is_none());
+    for keybits in [KeyBits::K128, KeyBits::K192, KeyBits::K256] {
+        assert!(rt; KeyBits::of_pair(keybits.pair_len()) == Some(keybits));
+    }
 }

@@ -5,4 +5,4 @@ use Rattle.label.proofs.label.Label.write.Goals as goal
 
 pub returns : goal.returns
 unfolding text
-returns c = c.write.ensures ∙ ap laid c.lines.ensures
+returns c = c.write.ensures ∙ ap laid c.from.ensures
