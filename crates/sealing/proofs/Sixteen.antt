@@ -1,9 +1,15 @@
 -- Sixteen bytes and the number that they are.
 use Rattle.std.proofs.Common.{◌≡◌, ℕ, zero, suc, ◌+◌, ◌*◌, ◌/◌, ◌%◌, ◌^◌, ◌<◌, List, [], ◌∷◌, map, get_or, sym, refl, ap, ◌∙◌, ap₂, arith}
+use Rattle.std.specs.Int.{w128, from_le_bytes}
 use lib.Bits.{bit_xor, xor_block, xor_lt, xor_assoc, xor_self, xor_zero_r}
 use Rattle.std.proofs.lemmas.Slice.Eq.{text_from_reads}
 use Rattle.octets.specs.Octets.{Bytes, Block}
 use Rattle.sealing.specs.Xts.{bytes16, number8, number16, added}
+
+-- what std reads from sixteen bytes
+pub number_read : (b : List ℕ) (n : ℕ) → n ≡ from_le_bytes w128 b → n ≡ number16 b
+unfolding number16
+number_read b n e = omega arith
 
 pub number-bytes : (x : ℕ) → x < 2 ^ 128 → number16 (bytes16 x) ≡ x
 unfolding number16 bytes16
