@@ -22,12 +22,12 @@ pub flat_joined : (bs cs : List (List ℕ)) → bs ≡ cs → flat_map (λ b. b)
 flat_joined bs cs e = flat bs ∙ ap joined e
 
 -- one tweak more is written
-pub tweaks_more : (ts : List (List ℕ)) (t : List ℕ) (i : ℕ) → i < 8 → length ts ≡ 8
-    → take (i + 1) (set ts i t) ++ tweaks (8 - (i + 1)) (doubled t) ≡ take i ts ++ tweaks (8 - i) t
+pub tweaks_more : (ts : List (List ℕ)) (i : ℕ) (w t next : List ℕ) → i < 8 → length ts ≡ 8 → w ≡ t → next ≡ doubled t
+    → take (i + 1) (set ts i w) ++ tweaks (8 - (i + 1)) next ≡ take i ts ++ tweaks (8 - i) t
 unfolding tweaks
-tweaks_more ts t i h l =
+tweaks_more ts i w t next h l e d =
     let n : 8 - i ≡ suc (8 - (i + 1)) = omega arith in
-    rw (take_more_set ts i t (omega arith), n) (append_assoc (take i ts) (t ∷ []) (tweaks (8 - (i + 1)) (doubled t)))
+    rw (take_more_set ts i w (omega arith), n, e, d) (append_assoc (take i ts) (t ∷ []) (tweaks (8 - (i + 1)) (doubled t)))
 
 pub tweaks_made : (ts : List (List ℕ)) (t : List ℕ) (i : ℕ) → 8 ≤ i → length ts ≡ 8 → take i ts ++ tweaks (8 - i) t ≡ ts
 unfolding tweaks

@@ -1,36 +1,48 @@
 // XTS of IEEE 1619 on a frame of eight blocks, in place.
 ghost use Rattle.std.specs.Prelude.{◌≡◌, ℕ, List};
 ghost use Rattle.std.specs.Fn.{FnOnceReturnsAtMut};
-ghost use Rattle.sealing.specs.Xts.{unit, added, doubled, tweaks as tweaks_of, masked, blocks, joined};
+ghost use Rattle.sealing.specs.Xts.{bytes16, unit, added, doubled, tweaks as tweaks_of, masked, blocks, joined};
 
 use engine::Engine;
 
 const HIGH_BIT: u128 = 1 << 127;
 
-#[tactic(auto, using(crate::proofs::Sixteen::number_read), unfolding(crate::specs::Xts::bytes16))]
-fn double(tweak: [u8; 16]) -> [u8; 16]
-    ensures { result ≡ doubled tweak }
+// The number of the next tweak: a bit that falls out of the shift comes back.
+#[tactic(auto, using(crate::proofs::Sixteen::number_bytes))]
+fn double(tweak: u128) -> u128
+    ensures { bytes16 result ≡ doubled (bytes16 tweak) }
 {
-    let x = u128::from_le_bytes(tweak);
-    let carry = if x < HIGH_BIT { 0 } else { 0x87 };
-    (x << 1 ^ carry).to_le_bytes()
+    let carry = if tweak < HIGH_BIT { 0 } else { 0x87 };
+    tweak << 1 ^ carry
 }
 
-fn add(block: &mut [u8; 16], tweak: &[u8; 16])
-    ensures { block.new ≡ added block.old tweak.now }
+#[tactic(auto, using(crate::proofs::Sixteen::xored_more, crate::proofs::Sixteen::added_xored))]
+fn add(mut block: [u8; 16], tweak: [u8; 16]) -> [u8; 16]
+    ensures { result ≡ added block tweak }
 {
-    *block = (u128::from_le_bytes(*block) ^ u128::from_le_bytes(*tweak)).to_le_bytes();
+    for (i, byte) in tweak.iter().enumerate() {
+        block[i] ^= byte;
+    }
+    block
 }
 
-// The tweaks of a frame: the first is E of its unit number, and each next one doubles the one before.
-fn tweaks<E: Engine>(engine: &E, frame: u64) -> [[u8; 16]; 8]
-    ensures { result ≡ tweaks_of 8 (E.enciphers engine.now (unit frame)) }
+// The first tweak of a frame is E of its unit number.
+fn first_tweak<E: Engine>(engine: &E, frame: u64) -> [u8; 16]
+    ensures { result ≡ E.enciphers engine.now (unit frame) }
 {
-    let mut next = u128::from(frame).to_le_bytes();
-    engine.encipher(&mut next);
+    let mut tweak = u128::from(frame).to_le_bytes();
+    engine.encipher(&mut tweak);
+    tweak
+}
+
+// Each next tweak doubles the one before.
+fn tweaks(first: [u8; 16]) -> [[u8; 16]; 8]
+    ensures { result ≡ tweaks_of 8 first }
+{
+    let mut next = u128::from_le_bytes(first);
     let mut tweaks = [[0; 16]; 8];
     for tweak in tweaks.iter_mut() {
-        *tweak = next;
+        *tweak = next.to_le_bytes();
         next = double(next);
     }
     tweaks
@@ -40,7 +52,7 @@ fn mask(blocks: &mut [[u8; 16]; 8], tweaks: &[[u8; 16]; 8])
     ensures { blocks.new ≡ masked tweaks.now blocks.old }
 {
     for (i, tweak) in tweaks.iter().enumerate() {
-        add(&mut blocks[i], tweak);
+        blocks[i] = add(blocks[i], *tweak);
     }
 }
 
@@ -55,7 +67,7 @@ pub(crate) fn between_masks<E: Engine, F: FnOnce(&mut [[u8; 16]; 8])>(
     ensures { let ts = tweaks_of 8 (E.enciphers tweak.now (unit frame)) in
         (out : List (List ℕ)) × FnOnceReturnsAtMut F.FnOnce cipher (masked ts (blocks 8 bytes.old)) tt out × (bytes.new ≡ joined (masked ts out)) }
 {
-    let tweaks = tweaks(tweak, frame);
+    let tweaks = tweaks(first_tweak(tweak, frame));
     let mut blocks = [[0; 16]; 8];
     blocks.copy_from_slice(bytes.as_chunks().0);
     mask(&mut blocks, &tweaks);

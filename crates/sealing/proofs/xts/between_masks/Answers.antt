@@ -1,11 +1,11 @@
 use Rattle.std.proofs.Common.{refl, ap, ◌∙◌, ap₂}
-use Rattle.sealing.specs.Xts.{masked}
+use Rattle.sealing.specs.Xts.{tweaks, masked}
 use Rattle.sealing.proofs.Frames.{frame_blocks, flat_joined}
 use Rattle.sealing.proofs.xts.between_masks.Goals as goal
 
 pub returns : goal.returns
 returns g c =
-    let ts = c.tweaks-tweaks.ensures in
+    let ts = c.tweaks-tweaks.ensures ∙ ap (tweaks 8) c.first_tweak.ensures in
     let cut = c.copy_from_slice.ensures.after ∙ c.as_chunks.ensures.front ∙ frame_blocks c.args.bytes.now c.told-bytes in
     let met = c.cipher.ensures in (
       c.cipher.new.arg2,

@@ -1,18 +1,22 @@
 use Rattle.std.proofs.Common.{sym, ap, ◌∙◌, rules}
+use Rattle.octets.specs.Octets.{Block}
 use Rattle.sealing.specs.Xts.{bytes16, tweaks}
 use Rattle.sealing.proofs.Frames.{tweaks_more, tweaks_made}
+use Rattle.sealing.proofs.Sixteen.{number_read, bytes-number}
 use Rattle.sealing.proofs.xts.tweaks.Goals as goal
 
 pub loop-tweak-preserved : goal.loop-tweak-preserved
-loop-tweak-preserved g c =
+unfolding bytes16
+loop-tweak-preserved c =
     let so = c.loop-tweak.invariant in
-    let made = tweaks_more c.loop-tweak.tweak-items c.loop-tweak.next c.loop-tweak.tweak-index c.loop-tweak-test.true so.long ∙ so.made in
-    record { long = search rules; made = rw c.double-next.ensures made }
+    record {
+      long = search rules;
+      made = tweaks_more c.loop-tweak.tweak-items c.loop-tweak.tweak-index _ _ _ c.loop-tweak-test.true so.long c.to_le_bytes.ensures c.double-next.ensures ∙ so.made;
+    }
 
 pub returns : goal.returns
-unfolding bytes16
-returns g c =
+returns c =
     let so = c.loop-tweak.invariant in
-    let first = c.to_le_bytes-next.ensures ∙ ap bytes16 c.from.ensures in
-    sym (tweaks_made c.loop-tweak.tweak-items c.loop-tweak.next c.loop-tweak.tweak-index c.loop-tweak-test.false so.long)
-    ∙ so.made ∙ ap (tweaks 8) (c.encipher.ensures ∙ ap (g.E.Engine.enciphers c.args.engine.now) first)
+    let first : Block c.args.first = record { sixteen = search rules; bytes = search rules } in
+    sym (tweaks_made c.loop-tweak.tweak-items _ c.loop-tweak.tweak-index c.loop-tweak-test.false so.long) ∙ so.made
+    ∙ ap (tweaks 8) (ap bytes16 (number_read c.args.first _ c.from_le_bytes-next.ensures) ∙ bytes-number c.args.first first)
