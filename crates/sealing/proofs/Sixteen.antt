@@ -14,10 +14,6 @@ pub number_read : (b : List ℕ) (n : ℕ) → n ≡ from_le_bytes w128 b → n 
 unfolding number16
 number_read b n e = omega arith
 
-pub number_bytes : (x : ℕ) → x < 2 ^ 128 → number16 (bytes16 x) ≡ x
-unfolding number16 bytes16
-number_bytes x h = omega arith
-
 mods_bytes : (qs : List ℕ) → Bytes (map (λ q. q % 256) qs)
 mods_bytes [] i = omega arith
 mods_bytes (q ∷ qs) zero = omega arith
@@ -46,7 +42,7 @@ first_half b = grind (arith, common_steps)
 second_half : (b : List ℕ) → number8 b 8 ≡ from_le_bytes w64 (drop 8 b)
 second_half b = grind (arith, common_steps)
 
-pub bytes-number : (b : List ℕ) → Block b → bytes16 (number16 b) ≡ b
+bytes-number : (b : List ℕ) → Block b → bytes16 (number16 b) ≡ b
 unfolding number16
 bytes-number b p =
     halves (number8 b 0) (number8 b 8) (number8_lt b p.bytes)

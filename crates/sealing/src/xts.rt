@@ -7,13 +7,14 @@ use engine::Engine;
 
 const HIGH_BIT: u128 = 1 << 127;
 
-// The number of the next tweak: a bit that falls out of the shift comes back.
-#[tactic(auto, using(crate::proofs::Sixteen::number_bytes))]
-fn double(tweak: u128) -> u128
-    ensures { bytes16 result ≡ doubled (bytes16 tweak) }
+// A bit that falls out of the shift comes back.
+#[tactic(auto, using(crate::proofs::Sixteen::number_read), unfolding(crate::specs::Xts::bytes16))]
+fn double(tweak: [u8; 16]) -> [u8; 16]
+    ensures { result ≡ doubled tweak }
 {
-    let carry = if tweak < HIGH_BIT { 0 } else { 0x87 };
-    tweak << 1 ^ carry
+    let x = u128::from_le_bytes(tweak);
+    let carry = if x < HIGH_BIT { 0 } else { 0x87 };
+    (x << 1 ^ carry).to_le_bytes()
 }
 
 #[tactic(auto, using(crate::proofs::Sixteen::xored_more, crate::proofs::Sixteen::added_xored))]
@@ -36,14 +37,13 @@ fn first_tweak<E: Engine>(engine: &E, frame: u64) -> [u8; 16]
 }
 
 // Each next tweak doubles the one before.
+#[tactic(auto, unfolding(crate::specs::Xts::tweaks))]
 fn tweaks(first: [u8; 16]) -> [[u8; 16]; 8]
     ensures { result ≡ tweaks_of 8 first }
 {
-    let mut next = u128::from_le_bytes(first);
-    let mut tweaks = [[0; 16]; 8];
-    for tweak in tweaks.iter_mut() {
-        *tweak = next.to_le_bytes();
-        next = double(next);
+    let mut tweaks = [first; 8];
+    for i in 0..7usize {
+        tweaks[i + 1] = double(tweaks[i]);
     }
     tweaks
 }
