@@ -1,5 +1,5 @@
 -- A frame cut into blocks and put together again, and blocks masked one by one.
-use Rattle.std.proofs.Common.{◌≡◌, ℕ, zero, suc, ◌+◌, ◌-◌, ◌/◌, ◌<◌, ◌≤◌, List, [], ◌∷◌, ◌++◌, length, get_or, take, drop, set, refl, ap, ◌∙◌, append_assoc, get_or-set_same, sym, arith}
+use Rattle.std.proofs.Common.{◌≡◌, ℕ, zero, suc, ◌+◌, ◌-◌, ◌/◌, ◌<◌, ◌≤◌, List, [], ◌∷◌, ◌++◌, length, take, drop, set, refl, ap, ◌∙◌, append_assoc, arith}
 use Rattle.std.proofs.lemmas.List.{append-nil, take_all, take_more_set}
 use Rattle.std.specs.List.{flat_map}
 use Rattle.std.specs.Simd.{first_chunks}
@@ -21,16 +21,14 @@ flat (b ∷ bs) = ap (λ f. b ++ f) (flat bs)
 pub flat_joined : (bs cs : List (List ℕ)) → bs ≡ cs → flat_map (λ b. b) bs ≡ joined cs
 flat_joined bs cs e = flat bs ∙ ap joined e
 
--- the tweak after the i-th is written, and those after it are still to come
-pub tweaks_more : (ts : List (List ℕ)) (i : ℕ) (t : List ℕ) → i < 7 → length ts ≡ 8 → t ≡ doubled (get_or ts i [])
-    → take (i + 1 + 1) (set ts (i + 1) t) ++ tweaks (7 - (i + 1)) (doubled (get_or (set ts (i + 1) t) (i + 1) []))
-    ≡ take (i + 1) ts ++ tweaks (7 - i) (doubled (get_or ts i []))
+-- one tweak more is written
+pub tweaks_more : (ts : List (List ℕ)) (i : ℕ) (w t next : List ℕ) → i < 8 → length ts ≡ 8 → w ≡ t → next ≡ doubled t
+    → take (i + 1) (set ts i w) ++ tweaks (8 - (i + 1)) next ≡ take i ts ++ tweaks (8 - i) t
 unfolding tweaks
-tweaks_more ts i t h l e =
-    let n : 7 - i ≡ suc (7 - (i + 1)) = omega arith in
-    let lt : i + 1 < length ts = omega arith in
-    rw (take_more_set ts (i + 1) t lt, get_or-set_same, n, sym e) (append_assoc (take (i + 1) ts) (t ∷ []) (tweaks (7 - (i + 1)) (doubled t)))
+tweaks_more ts i w t next h l e d =
+    let n : 8 - i ≡ suc (8 - (i + 1)) = omega arith in
+    rw (take_more_set ts i w (omega arith), n, e, d) (append_assoc (take i ts) (t ∷ []) (tweaks (8 - (i + 1)) (doubled t)))
 
-pub tweaks_made : (ts : List (List ℕ)) (i : ℕ) (t : List ℕ) → 7 ≤ i → length ts ≡ 8 → ts ≡ take (i + 1) ts ++ tweaks (7 - i) t
+pub tweaks_made : (ts : List (List ℕ)) (t : List ℕ) (i : ℕ) → 8 ≤ i → length ts ≡ 8 → take i ts ++ tweaks (8 - i) t ≡ ts
 unfolding tweaks
-tweaks_made ts i t h l = let n : 7 - i ≡ 0 = omega arith in rw (take_all (i + 1) ts (omega arith), n, append-nil) refl
+tweaks_made ts t i h l = let n : 8 - i ≡ 0 = omega arith in rw (take_all i ts (omega arith), n) (append-nil ts)

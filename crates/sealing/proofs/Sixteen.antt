@@ -14,6 +14,10 @@ pub number_read : (b : List ℕ) (n : ℕ) → n ≡ from_le_bytes w128 b → n 
 unfolding number16
 number_read b n e = omega arith
 
+pub number_bytes : (x : ℕ) → x < 2 ^ 128 → number16 (bytes16 x) ≡ x
+unfolding number16 bytes16
+number_bytes x h = omega arith
+
 mods_bytes : (qs : List ℕ) → Bytes (map (λ q. q % 256) qs)
 mods_bytes [] i = omega arith
 mods_bytes (q ∷ qs) zero = omega arith
@@ -33,6 +37,10 @@ halves : (lo hi : ℕ) → lo < 2 ^ 64 → bytes16 (lo + hi * 2 ^ 64) ≡ to_le_
 unfolding bytes16
 halves lo hi h = grind arith
 
+pub halved_bytes : (x : ℕ) → bytes16 x ≡ to_le_bytes w64 (x % 2 ^ 64) ++ to_le_bytes w64 (x / 2 ^ 64)
+halved_bytes x =
+    let e : x ≡ x % 2 ^ 64 + x / 2 ^ 64 * 2 ^ 64 = omega arith in ap bytes16 e ∙ halves (x % 2 ^ 64) (x / 2 ^ 64) (omega arith)
+
 number8_lt : (b : List ℕ) → Bytes b → number8 b 0 < 2 ^ 64
 number8_lt b h = omega (arith, h 0, h 1, h 2, h 3, h 4, h 5, h 6, h 7)
 
@@ -42,7 +50,7 @@ first_half b = grind (arith, common_steps)
 second_half : (b : List ℕ) → number8 b 8 ≡ from_le_bytes w64 (drop 8 b)
 second_half b = grind (arith, common_steps)
 
-bytes-number : (b : List ℕ) → Block b → bytes16 (number16 b) ≡ b
+pub bytes-number : (b : List ℕ) → Block b → bytes16 (number16 b) ≡ b
 unfolding number16
 bytes-number b p =
     halves (number8 b 0) (number8 b 8) (number8_lt b p.bytes)

@@ -5,16 +5,28 @@ ghost use Rattle.sealing.specs.Xts.{bytes16, unit, added, doubled, tweaks as twe
 
 use engine::Engine;
 
+const HALF: u128 = 1 << 64;
+
 const HIGH_BIT: u128 = 1 << 127;
 
-// A bit that falls out of the shift comes back.
-#[tactic(auto, using(crate::proofs::Sixteen::number_read), unfolding(crate::specs::Xts::bytes16))]
-fn double(tweak: [u8; 16]) -> [u8; 16]
-    ensures { result ≡ doubled tweak }
+// A half at a time: the bytes of a number of 128 bits would be stored one by one.
+fn bytes(x: u128) -> [u8; 16]
+    ensures { result ≡ bytes16 x }
 {
-    let x = u128::from_le_bytes(tweak);
-    let carry = if x < HIGH_BIT { 0 } else { 0x87 };
-    (x << 1 ^ carry).to_le_bytes()
+    let low = (x % HALF) as u64;
+    let high = (x >> 64) as u64;
+    let mut bytes = [0; 16];
+    bytes.copy_from_slice([low.to_le_bytes(), high.to_le_bytes()].as_flattened());
+    bytes
+}
+
+// The number of the next tweak: a bit that falls out of the shift comes back.
+#[tactic(auto, using(crate::proofs::Sixteen::number_bytes))]
+fn double(tweak: u128) -> u128
+    ensures { bytes16 result ≡ doubled (bytes16 tweak) }
+{
+    let carry = if tweak < HIGH_BIT { 0 } else { 0x87 };
+    tweak << 1 ^ carry
 }
 
 #[tactic(auto, using(crate::proofs::Sixteen::xored_more, crate::proofs::Sixteen::added_xored))]
@@ -31,19 +43,20 @@ fn add(mut block: [u8; 16], tweak: [u8; 16]) -> [u8; 16]
 fn first_tweak<E: Engine>(engine: &E, frame: u64) -> [u8; 16]
     ensures { result ≡ E.enciphers engine.now (unit frame) }
 {
-    let mut tweak = u128::from(frame).to_le_bytes();
+    let mut tweak = bytes(u128::from(frame));
     engine.encipher(&mut tweak);
     tweak
 }
 
 // Each next tweak doubles the one before.
-#[tactic(auto, unfolding(crate::specs::Xts::tweaks))]
 fn tweaks(first: [u8; 16]) -> [[u8; 16]; 8]
     ensures { result ≡ tweaks_of 8 first }
 {
-    let mut tweaks = [first; 8];
-    for i in 0..7usize {
-        tweaks[i + 1] = double(tweaks[i]);
+    let mut next = u128::from_le_bytes(first);
+    let mut tweaks = [[0; 16]; 8];
+    for tweak in tweaks.iter_mut() {
+        *tweak = bytes(next);
+        next = double(next);
     }
     tweaks
 }
