@@ -1,12 +1,11 @@
-// The functions that C sees.
+// The functions that C sees: names, parameters and numbers are those of its header.
 ghost use Rattle.std.specs.Prelude.{◌≡◌, ℕ, ◌&&◌, length, replicate};
 ghost use Rattle.camellia.specs.Cipher.{E, D};
 ghost use Rattle.camellia.specs.Laws.{takes};
-ghost use Rattle.hosts.specs.declared.way.Way.TheVariants.{Seal, Open};
-ghost use Rattle.hosts.specs.Calls.{returned, framed, left, accepted, under};
+ghost use Rattle.hosts.specs.Calls.{returned, framed, left, accepted, under, seals, opens};
 
-use crate::call::call;
-use crate::way::Way;
+use crate::call::{call, number};
+use crate::way::{Open, Seal};
 use camellia_byte::ByteCamellia;
 use camellia_long::cipher::LongCamellia;
 use camellia_word::WordCamellia;
@@ -16,9 +15,9 @@ pub extern "C" fn savecard_seal_byte(pair: &mut [u8], frame: u64, bytes: &mut [u
     ensures answer { result ≡ returned (accepted takes (length pair.old)) (framed bytes.old) }
     ensures zeroed { pair.new ≡ replicate (length pair.old) 0 }
     ensures stored { bytes.new ≡ left (accepted takes (length pair.old) && framed bytes.old)
-        (under Seal E D pair.old frame bytes.old) bytes.old }
+        (under seals E D pair.old frame bytes.old) bytes.old }
 {
-    call::<ByteCamellia>(Way::Seal, pair, frame, bytes)
+    number(call::<ByteCamellia, Seal>(pair, frame, bytes))
 }
 
 #[unsafe(no_mangle)]
@@ -26,9 +25,9 @@ pub extern "C" fn savecard_seal_word(pair: &mut [u8], frame: u64, bytes: &mut [u
     ensures answer { result ≡ returned (accepted takes (length pair.old)) (framed bytes.old) }
     ensures zeroed { pair.new ≡ replicate (length pair.old) 0 }
     ensures stored { bytes.new ≡ left (accepted takes (length pair.old) && framed bytes.old)
-        (under Seal E D pair.old frame bytes.old) bytes.old }
+        (under seals E D pair.old frame bytes.old) bytes.old }
 {
-    call::<WordCamellia>(Way::Seal, pair, frame, bytes)
+    number(call::<WordCamellia, Seal>(pair, frame, bytes))
 }
 
 #[unsafe(no_mangle)]
@@ -36,9 +35,9 @@ pub extern "C" fn savecard_seal_long(pair: &mut [u8], frame: u64, bytes: &mut [u
     ensures answer { result ≡ returned (accepted takes (length pair.old)) (framed bytes.old) }
     ensures zeroed { pair.new ≡ replicate (length pair.old) 0 }
     ensures stored { bytes.new ≡ left (accepted takes (length pair.old) && framed bytes.old)
-        (under Seal E D pair.old frame bytes.old) bytes.old }
+        (under seals E D pair.old frame bytes.old) bytes.old }
 {
-    call::<LongCamellia>(Way::Seal, pair, frame, bytes)
+    number(call::<LongCamellia, Seal>(pair, frame, bytes))
 }
 
 #[unsafe(no_mangle)]
@@ -46,9 +45,9 @@ pub extern "C" fn savecard_open_byte(pair: &mut [u8], frame: u64, bytes: &mut [u
     ensures answer { result ≡ returned (accepted takes (length pair.old)) (framed bytes.old) }
     ensures zeroed { pair.new ≡ replicate (length pair.old) 0 }
     ensures stored { bytes.new ≡ left (accepted takes (length pair.old) && framed bytes.old)
-        (under Open E D pair.old frame bytes.old) bytes.old }
+        (under opens E D pair.old frame bytes.old) bytes.old }
 {
-    call::<ByteCamellia>(Way::Open, pair, frame, bytes)
+    number(call::<ByteCamellia, Open>(pair, frame, bytes))
 }
 
 #[unsafe(no_mangle)]
@@ -56,9 +55,9 @@ pub extern "C" fn savecard_open_word(pair: &mut [u8], frame: u64, bytes: &mut [u
     ensures answer { result ≡ returned (accepted takes (length pair.old)) (framed bytes.old) }
     ensures zeroed { pair.new ≡ replicate (length pair.old) 0 }
     ensures stored { bytes.new ≡ left (accepted takes (length pair.old) && framed bytes.old)
-        (under Open E D pair.old frame bytes.old) bytes.old }
+        (under opens E D pair.old frame bytes.old) bytes.old }
 {
-    call::<WordCamellia>(Way::Open, pair, frame, bytes)
+    number(call::<WordCamellia, Open>(pair, frame, bytes))
 }
 
 #[unsafe(no_mangle)]
@@ -66,7 +65,7 @@ pub extern "C" fn savecard_open_long(pair: &mut [u8], frame: u64, bytes: &mut [u
     ensures answer { result ≡ returned (accepted takes (length pair.old)) (framed bytes.old) }
     ensures zeroed { pair.new ≡ replicate (length pair.old) 0 }
     ensures stored { bytes.new ≡ left (accepted takes (length pair.old) && framed bytes.old)
-        (under Open E D pair.old frame bytes.old) bytes.old }
+        (under opens E D pair.old frame bytes.old) bytes.old }
 {
-    call::<LongCamellia>(Way::Open, pair, frame, bytes)
+    number(call::<LongCamellia, Open>(pair, frame, bytes))
 }

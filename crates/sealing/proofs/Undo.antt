@@ -28,7 +28,7 @@ tweaks-blocks (suc n) t p = more p (tweaks-blocks n (doubled t) (bytes_block _))
 masked-twice : (ts bs : List (List ℕ)) → Blocks ts → Blocks bs → masked ts (masked ts bs) ≡ bs
 masked-twice [] bs q p = refl
 masked-twice (t ∷ ts) [] q p = refl
-masked-twice (t ∷ ts) (b ∷ bs) (more r q) (more s p) = ap₂ ◌∷◌ (added_twice b t s r.bytes) (masked-twice ts bs q p)
+masked-twice (t ∷ ts) (b ∷ bs) (more r q) (more s p) = ap₂ ◌∷◌ (added_twice b t s r) (masked-twice ts bs q p)
 
 map-undone : (f g : List ℕ → List ℕ) → ((b : List ℕ) → Block b → g (f b) ≡ b) → (bs : List (List ℕ)) → Blocks bs → map g (map f bs) ≡ bs
 map-undone f g h [] p = refl
