@@ -1,5 +1,5 @@
 -- A card in the code, in the words of the law.
-use Rattle.std.specs.Prelude.{ℕ, Bool, cond, not, ◌&&◌, List, [], ◌∷◌, Ok, Err, Result, ◌==◌, nat_le}
+use Rattle.std.specs.Prelude.{ℕ, Bool, if◌then◌else◌, not, ◌&&◌, List, [], ◌∷◌, Ok, Err, Result, ◌==◌, nat_le}
 use Rattle.std.specs.Str.{bytes_eq}
 use Rattle.refusal.specs.declared.Refusal.{Refusal}
 use Rattle.refusal.specs.declared.Refusal.TheVariants.{WrongState, KeyLength, CardBufferLength, LabelFrame, FrameNumber, WornFrame, OtherKeys}
@@ -42,7 +42,7 @@ stray n Start = not (n == 1)
 stray n Step = not (n == 2)
 
 abbrev pub belonging : ℕ → Kind → Result (Unit {0}) Refusal
-belonging n k = cond (stray n k) (Err WrongState) (Ok tt)
+belonging n k = if stray n k then Err WrongState else Ok tt
 
 -- a read or a write of frame n with so long a buffer, on a mounted card
 abbrev pub slot_checks : Store → ℕ → ℕ → List Check

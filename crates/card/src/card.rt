@@ -1,11 +1,10 @@
 // A card: put on a store, ejected, and what it tells of itself.
 ghost use Rattle.std.specs.Prelude.{◌≡◌};
-ghost use Rattle.label.specs.Told.{fields_in};
 ghost use Rattle.law.specs.Calls.{eject, ejected, status};
-ghost use Rattle.law.specs.Model.{off, state_by};
+ghost use Rattle.law.specs.Model.{off, state_of};
 ghost use Rattle.calls.specs.Replies.{state_number, answer_of, status_answer};
 ghost use Rattle.sealed_store.specs.Told.{kind_of};
-ghost use Rattle.card.specs.Cards.{card_in, outcome, Does};
+ghost use Rattle.card.specs.Cards.{card_in, Does};
 
 use crate::belongs::{Kind, belongs};
 use crate::engines::Engines;
@@ -21,19 +20,6 @@ pub struct Card<E, S> {
     pub(crate) label: Option<Label>,
     pub(crate) engines: Engines<E>,
     pub(crate) store: S,
-}
-
-// The state that a label tells.
-pub(crate) fn state_of(label: Option<Label>) -> State
-    ensures { state_number result ≡ state_by (fields_in label) }
-{
-    let Some(label) = label else {
-        return State::Unmounted;
-    };
-    match label.next {
-        None => State::AtRest,
-        Some(_) => State::Changing,
-    }
 }
 
 impl<E: Engine + Drop, S: Store> Card<E, S> {
@@ -56,8 +42,19 @@ impl<E: Engine + Drop, S: Store> Card<E, S> {
         self.store
     }
 
+    // The state that its label tells.
+    pub(crate) fn state(&self) -> State
+        ensures { state_number result ≡ state_of (card_in E.Engine self.now) }
+    {
+        match self.label {
+            None => State::Unmounted,
+            Some(Label { next: None, .. }) => State::AtRest,
+            Some(_) => State::Changing,
+        }
+    }
+
     pub fn status(&self) -> Status
-        ensures { status_answer result ≡ (outcome E.Engine S.Store self.now status).answer }
+        ensures { Does E.Engine S.Store self.now status (status_answer result) self.now }
     {
         let Some(label) = self.label else {
             return Status {
@@ -67,7 +64,7 @@ impl<E: Engine + Drop, S: Store> Card<E, S> {
             };
         };
         Status {
-            state: state_of(self.label),
+            state: self.state(),
             frames: self.store.count(),
             moved: label.moved as u64,
         }
@@ -76,7 +73,7 @@ impl<E: Engine + Drop, S: Store> Card<E, S> {
     pub fn eject(&mut self) -> Result<(), Refusal>
         ensures { Does E.Engine S.Store self.old eject (answer_of (λ _. ejected) result) self.new }
     {
-        belongs(state_of(self.label), Kind::Eject)?;
+        belongs(self.state(), Kind::Eject)?;
         self.label = None;
         self.engines = Engines::idle();
         Ok(())

@@ -6,7 +6,7 @@ ghost use Rattle.calls.specs.Replies.{answer_of, stepped_answer};
 ghost use Rattle.card.specs.Cards.{Does};
 
 use crate::belongs::{Kind, belongs};
-use crate::card::{Card, state_of};
+use crate::card::Card;
 use calls::Stepped;
 use engine::Engine;
 use octets::octets;
@@ -26,7 +26,7 @@ impl<E: Engine + Drop, S: Store> Card<E, S> {
         octets(pair);
         let wiped = Wiped { keys: pair };
         let pair: &[u8] = wiped.keys;
-        belongs(state_of(self.label), Kind::Start)?;
+        belongs(self.state(), Kind::Start)?;
         let label = self.label.ok_or(Refusal::WrongState)?;
         if !card_labels::sized(&label, pair) {
             return Err(Refusal::PairLength);
@@ -42,7 +42,7 @@ impl<E: Engine + Drop, S: Store> Card<E, S> {
     pub fn step(&mut self) -> Result<Stepped, Refusal>
         ensures { Does E.Engine S.Store self.old step (answer_of stepped_answer result) self.new }
     {
-        belongs(state_of(self.label), Kind::Step)?;
+        belongs(self.state(), Kind::Step)?;
         let label = self.label.ok_or(Refusal::WrongState)?;
         let stepped = card_labels::stepped(&label).ok_or(Refusal::WrongState)?;
         let frame = label.moved as u64 + 1;

@@ -1,5 +1,5 @@
 // The engines of a card.
-ghost use Rattle.std.specs.Prelude.{◌≡◌, true, length, Ok, Err};
+ghost use Rattle.std.specs.Prelude.{◌≡◌, true, length, IfOk};
 ghost use Rattle.std.specs.Result.{result_err};
 ghost use Rattle.sealing.specs.Pair.{paired};
 ghost use Rattle.label.specs.Told.{told};
@@ -38,8 +38,8 @@ impl<E: Engine + Drop> Engines<E> {
     pub(crate) fn of(label: &Label, pair: &[u8], second: &[u8]) -> Result<Self, Refusal>
         requires { (paired (length pair.now) ≡ true) × (second_fits (told label.now).next pair.now second.now ≡ true) }
         ensures refused { result_err result ≡ first_of (key_checks (kind_of E.Engine) (told label.now) pair.now second.now) }
-        ensures old { elim result [ Ok k ↦ keys_in E.Engine k.old ≡ keys_of (kind_of E.Engine) pair.now | Err _ ↦ Unit {0} ] }
-        ensures new { elim result [ Ok k ↦ keys_in E.Engine k.new ≡ second_keys (kind_of E.Engine) (told label.now).next second.now | Err _ ↦ Unit {0} ] }
+        ensures old { IfOk result (λ k. keys_in E.Engine k.old ≡ keys_of (kind_of E.Engine) pair.now) }
+        ensures new { IfOk result (λ k. keys_in E.Engine k.new ≡ second_keys (kind_of E.Engine) (told label.now).next second.now) }
     {
         let old = keys::loaded::<E>(pair)?;
         if keys::check_value(&old) != label.check {

@@ -7,10 +7,10 @@ ghost use Rattle.law.specs.Checks.{first_of};
 ghost use Rattle.law.specs.Model.{keys_for};
 ghost use Rattle.calls.specs.Replies.{answer_of};
 ghost use Rattle.sealed_store.specs.Told.{keys_in, store_in};
-ghost use Rattle.card.specs.Cards.{card_in, outcome, slot_checks, Does};
+ghost use Rattle.card.specs.Cards.{card_in, slot_checks, Does};
 
 use crate::belongs::{Kind, belongs};
-use crate::card::{Card, state_of};
+use crate::card::Card;
 use engine::Engine;
 use octets::octets;
 use refusal::Refusal;
@@ -42,23 +42,19 @@ impl<E: Engine + Drop, S: Store> Card<E, S> {
     fn pair_of(&self, n: u64) -> &Pair<E>
         ensures { keys_in E.Engine result.now ≡ keys_for (card_in E.Engine self.now) n }
     {
-        let Some(label) = self.label else {
-            return &self.engines.old;
-        };
-        if label.next.is_some() && n <= label.moved as u64 {
-            &self.engines.new
-        } else {
-            &self.engines.old
+        match self.label {
+            Some(label) if label.next.is_some() && n <= label.moved as u64 => &self.engines.new,
+            _ => &self.engines.old,
         }
     }
 
     pub fn read(&self, n: u64, buffer: &mut [u8]) -> Result<(), Refusal>
         ensures bytes { Bytes buffer.old }
-        ensures answer { answer_of (λ _. got buffer.new) result ≡ (outcome E.Engine S.Store self.now (read n buffer.old)).answer }
+        ensures done { Does E.Engine S.Store self.now (read n buffer.old) (answer_of (λ _. got buffer.new) result) self.now }
         ensures kept { is_ok result ≡ false → buffer.new ≡ buffer.old }
     {
         octets(buffer);
-        belongs(state_of(self.label), Kind::Read)?;
+        belongs(self.state(), Kind::Read)?;
         check(&self.store, n, buffer.len())?;
         let mut bytes = frames::fetch(&self.store, n);
         keys::open(self.pair_of(n), n, &mut bytes);
@@ -71,7 +67,7 @@ impl<E: Engine + Drop, S: Store> Card<E, S> {
         ensures done { Does E.Engine S.Store self.old (write n buffer.now) (answer_of (λ _. kept) result) self.new }
     {
         octets(buffer);
-        belongs(state_of(self.label), Kind::Write)?;
+        belongs(self.state(), Kind::Write)?;
         check(&self.store, n, buffer.len())?;
         let mut bytes = [0; 128];
         bytes.copy_from_slice(buffer);

@@ -6,7 +6,7 @@ ghost use Rattle.calls.specs.Replies.{answer_of};
 ghost use Rattle.card.specs.Cards.{Does};
 
 use crate::belongs::{Kind, belongs};
-use crate::card::{Card, state_of};
+use crate::card::Card;
 use crate::engines::Engines;
 use engine::Engine;
 use octets::octets;
@@ -25,7 +25,7 @@ impl<E: Engine + Drop, S: Store> Card<E, S> {
         octets(pair);
         let wiped = Wiped { keys: pair };
         let pair: &[u8] = wiped.keys;
-        belongs(state_of(self.label), Kind::Make)?;
+        belongs(self.state(), Kind::Make)?;
         let old = keys::loaded(pair)?;
         let label = card_labels::made(pair.len(), self.store.count(), &old).ok_or(
             Refusal::TooFewFrames,

@@ -10,7 +10,7 @@ ghost use Rattle.calls.specs.Replies.{answer_of, state_number};
 ghost use Rattle.card.specs.Cards.{Does};
 
 use crate::belongs::{Kind, belongs};
-use crate::card::{Card, state_of};
+use crate::card::Card;
 use crate::engines::Engines;
 use calls::State;
 use engine::Engine;
@@ -32,13 +32,11 @@ fn of_this_card<E: Engine>(label: &Label, count: u64) -> bool
 fn fits(label: &Label, pair: &[u8], second: &[u8]) -> bool
     ensures { result ≡ (paired (length pair.now) && (told label.now).keybits == 4 * length pair.now && second_fits (told label.now).next pair.now second.now) }
 {
-    if !card_labels::sized(label, pair) {
-        return false;
-    }
-    match label.next {
-        None => second.is_empty(),
-        Some(_) => second.len() == pair.len(),
-    }
+    card_labels::sized(label, pair)
+        && match label.next {
+            None => second.is_empty(),
+            Some(_) => second.len() == pair.len(),
+        }
 }
 
 impl<E: Engine + Drop, S: Store> Card<E, S> {
@@ -56,7 +54,7 @@ impl<E: Engine + Drop, S: Store> Card<E, S> {
         let second_wiped = Wiped { keys: second };
         let pair: &[u8] = first_wiped.keys;
         let second: &[u8] = second_wiped.keys;
-        belongs(state_of(self.label), Kind::Mount)?;
+        belongs(self.state(), Kind::Mount)?;
         let count = self.store.count();
         if count < 2 {
             return Err(Refusal::TooFewFrames);
@@ -73,6 +71,6 @@ impl<E: Engine + Drop, S: Store> Card<E, S> {
         }
         self.engines = Engines::of(&label, pair, second)?;
         self.label = Some(label);
-        Ok(state_of(self.label))
+        Ok(self.state())
     }
 }
