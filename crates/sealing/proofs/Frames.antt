@@ -1,4 +1,4 @@
--- A frame cut into blocks and put together again, and blocks masked one by one.
+-- A frame cut into blocks and put together again, and its tweaks written one by one.
 use Rattle.std.proofs.Common.{◌≡◌, ℕ, zero, suc, ◌+◌, ◌-◌, ◌/◌, ◌<◌, ◌≤◌, List, [], ◌∷◌, ◌++◌, length, take, drop, set, refl, ap, ◌∙◌, append_assoc, arith}
 use Rattle.std.proofs.lemmas.List.{append-nil, take_all, take_more_set}
 use Rattle.std.specs.List.{flat_map}

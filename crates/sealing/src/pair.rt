@@ -8,7 +8,8 @@ use engine::Engine;
 use refusal::Refusal;
 use std::array;
 
-// The engine under the data key, and the one under the tweak key.
+// The engine under the data key, and the one under the tweak key. The fields are open, since a refused load leaves
+// the engines themselves as they were: a view of what they tell would promise less.
 #[derive(Drop)]
 pub struct Pair<E> {
     pub cipher: E,
