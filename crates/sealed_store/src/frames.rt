@@ -2,7 +2,8 @@
 // No struct of store and pair: a card lends other pairs to each call, so each call would build it.
 ghost use Rattle.std.specs.Prelude.{◌≡◌, ℕ, ◌-◌, ◌<◌, false, [], length, slice_index_or};
 ghost use Rattle.law.specs.Store.{unworn_to};
-ghost use Rattle.law.specs.Model.{put as put_of, resealed, cleared_to};
+ghost use Rattle.law.specs.Kind.{seal as seal_of};
+ghost use Rattle.law.specs.Model.{put as put_of, resealed, cleared_to, zeros};
 ghost use Rattle.sealed_store.specs.Told.{keys_in, store_in};
 
 use crate::keys;
@@ -39,6 +40,15 @@ pub fn reseal<E: Engine, S: Store>(old: &Pair<E>, new: &Pair<E>, store: &mut S, 
     put(store, n, &bytes);
 }
 
+// Frame n becomes sealed zero bytes.
+fn clear_frame<E: Engine, S: Store>(pair: &Pair<E>, store: &mut S, n: u64)
+    ensures { store_in S.Store store.new ≡ put_of (store_in S.Store store.old) n (seal_of (keys_in E.Engine pair.now) n zeros) }
+{
+    let mut bytes = [0; 128];
+    keys::seal(pair, n, &mut bytes);
+    put(store, n, &bytes);
+}
+
 // Every data frame that is not worn becomes sealed zero bytes; how many there are.
 pub fn clear<E: Engine, S: Store>(pair: &Pair<E>, store: &mut S) -> u64
     ensures answer { result ≡ unworn_to (S.Store.worn store.old) (length (S.Store.frames store.old) - 1) }
@@ -50,9 +60,7 @@ pub fn clear<E: Engine, S: Store>(pair: &Pair<E>, store: &mut S) -> u64
     let mut sealed = 0;
     for n in 1..count {
         if !store.is_worn(n) {
-            let mut bytes = [0; 128];
-            keys::seal(pair, n, &mut bytes);
-            put(store, n, &bytes);
+            clear_frame(pair, store, n);
             sealed += 1;
         }
     }
