@@ -14,6 +14,7 @@ use arrayvec::ArrayVec;
 use refusal::Refusal;
 
 // Each worn frame is listed once, and at most twenty are.
+// No `impl Model`, as for `FlatImage`: its view would still hold `present`.
 #[derive(Drop)]
 pub struct Dump {
     image: FlatImage,

@@ -9,6 +9,7 @@ use crate::{Store, frame};
 use refusal::Refusal;
 
 // Bytes past the last whole frame, or past frame 1,023, are kept and never touched.
+// No `impl Model`: the laws of `Store` are of every value, so its view would still hold `octets`.
 #[derive(Drop)]
 pub struct FlatImage {
     bytes: Vec<u8>,
