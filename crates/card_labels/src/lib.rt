@@ -1,5 +1,5 @@
 // The labels that a card writes, each whole: of a new card, of a change that begins, and after a step of it.
-// They stand beside `Label`, since a pair's check value and a step are of crates above it.
+// They are no methods of `Label`, since a pair's check value and a step belong to crates above its own.
 #![tactic(auto)]
 
 ghost use Rattle.std.specs.Prelude.{◌≡◌, ◌*◌, ◌&&◌, length, ◌==◌};
