@@ -21,6 +21,7 @@ pub fn made<E: Engine>(len: usize, frames: u64, pair: &Pair<E>) -> Option<Label>
     ensures { fields_in result ≡ made_fields E.Engine.NAME len frames (check_of (keys_in E.Engine pair.now)) }
 {
     let keybits = KeyBits::of_pair(len)?;
+    let frames = u16::try_from(frames).ok()?;
     if !(2..=1024).contains(&frames) {
         return None;
     }
@@ -30,7 +31,7 @@ pub fn made<E: Engine>(len: usize, frames: u64, pair: &Pair<E>) -> Option<Label>
     Some(Label {
         cipher,
         keybits,
-        frames: frames as u16,
+        frames,
         check,
         next: None,
         moved: 0,
