@@ -1,5 +1,5 @@
 // The labels that a card writes, each whole: of a new card, of a change that begins, and after a step of it.
-// They stand beside `Label`, since a pair's check value and a step are of crates above it.
+// They are no methods of `Label`, since a pair's check value and a step belong to crates above its own.
 #![tactic(auto)]
 
 ghost use Rattle.std.specs.Prelude.{◌≡◌, ◌*◌, ◌&&◌, length, ◌==◌};
@@ -21,6 +21,7 @@ pub fn made<E: Engine>(len: usize, frames: u64, pair: &Pair<E>) -> Option<Label>
     ensures { fields_in result ≡ made_fields E.Engine.NAME len frames (check_of (keys_in E.Engine pair.now)) }
 {
     let keybits = KeyBits::of_pair(len)?;
+    let frames = u16::try_from(frames).ok()?;
     if !(2..=1024).contains(&frames) {
         return None;
     }
@@ -30,7 +31,7 @@ pub fn made<E: Engine>(len: usize, frames: u64, pair: &Pair<E>) -> Option<Label>
     Some(Label {
         cipher,
         keybits,
-        frames: frames as u16,
+        frames,
         check,
         next: None,
         moved: 0,

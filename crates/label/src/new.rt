@@ -27,7 +27,7 @@ fn is_still(next: Option<[u8; 4]>, moved: u16) -> bool
 }
 
 impl Label {
-    // A struct of these fields would be a label without its rules.
+    // The six come one by one, since a struct of them would be a label without its rules.
     pub fn new(
         cipher: [u8; 8],
         keybits: KeyBits,

@@ -31,6 +31,7 @@ impl From<&Label> for Lines {
 
 impl Label {
     // The label's text.
+    #[tactic(auto, unfolding(crate::specs::Text::text))]
     pub fn write(&self) -> [u8; 128]
         ensures { result ≡ text (told self.now) }
     {

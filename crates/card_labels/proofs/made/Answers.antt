@@ -13,7 +13,7 @@ returns-in_err-keybits g c =
 pub invariant_of-result : goal.invariant_of-result
 invariant_of-result g c =
     let e = c.check_value-check.ensures in
-    let frames : (2 ≤ c.args.frames) × (c.args.frames ≤ 1024) = search rules in
+    let frames : (2 ≤ c.in_ok-frames.frames) × (c.in_ok-frames.frames ≤ 1024) = search rules in
     record {
       named = (lettered_decides _).1 (subst EightLetters (sym c.NAME-cipher.ensures) g.met.E.Engine.lettered);
       counted = frames;
