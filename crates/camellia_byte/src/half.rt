@@ -62,6 +62,10 @@ impl Half for ByteHalf {
 
     ghost told = { Prim.search rules };
 
+    fn xor(self, other: Self) -> Self {
+        ByteHalf::from(u64::from(self) ^ u64::from(other))
+    }
+
     fn ps(self) -> Self {
         ByteHalf {
             bytes: mix(substitute(self.bytes)),

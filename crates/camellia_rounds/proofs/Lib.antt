@@ -1,4 +1,3 @@
 mod Runs
 mod ByParts
 mod Read
-mod Mapped

@@ -1,16 +1,17 @@
-// The subkeys that the tables take from the four sources.
-ghost use Rattle.std.specs.Prelude.{◌≡◌, ◌≤◌, map};
+// The subkeys that a plan takes from the four sources.
+ghost use Rattle.std.specs.Prelude.{◌≡◌, map};
 ghost use Rattle.camellia.specs.Keys.{layer_of, whitening_of};
 ghost use Rattle.camellia_rounds.specs.Sources.{schedule_from};
-ghost use Rattle.camellia_rounds.specs.Told.{layers_of, schedule_of};
+ghost use Rattle.camellia_rounds.specs.Told.{schedule_of};
 
 use crate::half::Half;
-use crate::schedule::{Layers, Schedule};
+use crate::schedule::{Schedule, Subkeys};
 use crate::sources::Sources;
 use crate::subkey::subkey;
-use crate::tables::{LAYERS_18, LAYERS_24, WHITENING_18, WHITENING_24};
+use crate::tables::{PLAN_18, PLAN_24, Plan};
 use camellia::plan::{Layer, Material, Slot, Whitening};
 
+#[inline(always)]
 fn layer(m: &Material, slots: Layer<Slot>) -> Layer<u64>
     ensures { result ≡ layer_of m.now slots }
 {
@@ -20,21 +21,23 @@ fn layer(m: &Material, slots: Layer<Slot>) -> Layer<u64>
     }
 }
 
-fn layers<const N: usize>(m: &Material, slots: &[Layer<Slot>; N]) -> [Layer<u64>; N]
-    requires { N ≤ 27 }
-    ensures { result ≡ map (layer_of m.now) slots.now }
-{
-    slots.map(|slots| layer(m, slots))
-}
-
-fn whitening(m: &Material, slots: Whitening<Slot>) -> Whitening<u64>
-    ensures { result ≡ whitening_of m.now slots }
-{
-    Whitening {
-        kw1: subkey(m, slots.kw1),
-        kw2: subkey(m, slots.kw2),
-        kw3: subkey(m, slots.kw3),
-        kw4: subkey(m, slots.kw4),
+impl<const N: usize> Subkeys<N> {
+    fn of(m: &Material, plan: &Plan<N>) -> Self
+        ensures kw { result.kw ≡ whitening_of m.now plan.now.kw }
+        ensures layers { result.layers ≡ map (layer_of m.now) plan.now.layers }
+    {
+        // A loop: an array's `map` takes four times as long, since the elements wait in an iterator first.
+        let mut layers = [Layer::Round(0); N];
+        for (i, slots) in plan.layers.iter().enumerate() {
+            layers[i] = layer(m, *slots);
+        }
+        let kw = Whitening {
+            kw1: subkey(m, plan.kw.kw1),
+            kw2: subkey(m, plan.kw.kw2),
+            kw3: subkey(m, plan.kw.kw3),
+            kw4: subkey(m, plan.kw.kw4),
+        };
+        Subkeys { kw, layers }
     }
 }
 
@@ -44,25 +47,8 @@ impl Schedule {
     {
         let m = sources.material::<H>();
         match sources {
-            Sources::Rounds18(_) => Schedule {
-                kw: whitening(&m, WHITENING_18),
-                layers: Layers::Rounds18(layers(&m, &LAYERS_18)),
-            },
-            Sources::Rounds24(_, _) => Schedule {
-                kw: whitening(&m, WHITENING_24),
-                layers: Layers::Rounds24(layers(&m, &LAYERS_24)),
-            },
-        }
-    }
-}
-
-impl Layers {
-    pub(crate) fn as_slice(&self) -> &[Layer<u64>]
-        ensures { result.now ≡ layers_of self.now }
-    {
-        match self {
-            Layers::Rounds18(layers) => layers,
-            Layers::Rounds24(layers) => layers,
+            Sources::Rounds18(_) => Schedule::Rounds18(Subkeys::of(&m, &PLAN_18)),
+            Sources::Rounds24(_, _) => Schedule::Rounds24(Subkeys::of(&m, &PLAN_24)),
         }
     }
 }

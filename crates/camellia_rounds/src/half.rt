@@ -9,6 +9,9 @@ pub trait Half: Copy + From<u64> + Into<u64> {
     // the number that a half is
     ghost value: { Self → ℕ };
 
+    fn xor(self, other: Self) -> Self
+        ensures { value result ≡ value self ⊕ value other };
+
     // S on each byte, and then P
     fn ps(self) -> Self
         ensures { value result ≡ PS (value self) };
@@ -16,12 +19,6 @@ pub trait Half: Copy + From<u64> + Into<u64> {
     ghost made: { (x : ℕ) (s : Self) → Self.from_gives x s → value s ≡ x };
 
     ghost told: { (s : Self) (x : ℕ) → Self.converts s x → x ≡ value s };
-
-    final fn xor(self, other: Self) -> Self
-        ensures { value result ≡ value self ⊕ value other }
-    {
-        Self::from(self.into() ^ other.into())
-    }
 
     #[tactic(auto, unfolding(camellia::specs::Functions::F))]
     final fn f(self, key: Self) -> Self

@@ -7,7 +7,7 @@ ghost use Rattle.std.proofs.lemmas.Iterator.{YieldsList};
 ghost use Rattle.camellia.specs.declared.plan.Layer.{Layer};
 ghost use Rattle.camellia.specs.Rounds.{st, step as step_of, swapped as swapped_of, whitened as whitened_of, turned as turned_of};
 ghost use Rattle.camellia.specs.declared.plan.Layer.TheVariants.{Round, Fl};
-ghost use Rattle.camellia_rounds.specs.Told.{state_of, schedule_of};
+ghost use Rattle.camellia_rounds.specs.Told.{state_of, schedule_of, exchanged as exchanged_of};
 
 use crate::half::Half;
 use crate::schedule::Schedule;
@@ -57,6 +57,7 @@ impl<H: Half> Halves<H> {
         }
     }
 
+    #[inline(always)]
     pub(crate) fn round(self, k: u64) -> Self
         ensures { state_of H.value result ≡ step_of (Round k) (state_of H.value self) }
     {
@@ -66,6 +67,7 @@ impl<H: Half> Halves<H> {
         }
     }
 
+    #[inline(always)]
     fn fl(self, a: u64, b: u64) -> Self
         ensures { state_of H.value result ≡ step_of (Fl a b) (state_of H.value self) }
     {
@@ -75,6 +77,7 @@ impl<H: Half> Halves<H> {
         }
     }
 
+    #[inline(always)]
     fn step(self, layer: Layer<u64>) -> Self
         ensures { state_of H.value result ≡ step_of layer (state_of H.value self) }
     {
@@ -85,30 +88,32 @@ impl<H: Half> Halves<H> {
     }
 
     // E with these whitening keys and these layers, in the order in which they come.
+    #[inline(always)]
     fn enciphered<I: Iterator<Item = Layer<u64>>>(self, kw: Whitening<u64>, layers: I) -> Self
         requires can { I.can_next layers }
         requires finite { IsFinite (I.remaining layers) }
         ensures { (ys : List (Layer ℕ)) → YieldsList I.next_gives (λ y. y) layers ys
             → state_of H.value result ≡ encrypt_of (record { kw = kw; layers = ys }) (state_of H.value self) }
     {
-        layers
-            .fold(self.whitened(kw.kw1, kw.kw2), |s, layer| s.step(layer))
-            .swapped()
-            .whitened(kw.kw3, kw.kw4)
+        let mut s = self.whitened(kw.kw1, kw.kw2);
+        for layer in layers {
+            s = s.step(layer);
+        }
+        s.swapped().whitened(kw.kw3, kw.kw4)
     }
 
     pub(crate) fn encrypted(self, k: &Schedule) -> Self
         ensures { state_of H.value result ≡ encrypt_of (schedule_of k.now) (state_of H.value self) }
     {
-        self.enciphered(k.kw, k.layers.as_slice().iter().copied())
+        self.enciphered(k.kw(), k.layers().iter().copied())
     }
 
     pub(crate) fn decrypted(self, k: &Schedule) -> Self
         ensures { state_of H.value result
             ≡ encrypt_of (reversed (schedule_of k.now)) (state_of H.value self) }
     {
-        let layers = k.layers.as_slice().iter().rev();
-        self.enciphered(exchanged(k.kw), layers.map(|layer| turned(*layer)))
+        let layers = k.layers().iter().rev();
+        self.enciphered(exchanged(k.kw()), layers.map(|layer| turned(*layer)))
     }
 }
 
@@ -124,7 +129,7 @@ fn turned(layer: Layer<u64>) -> Layer<u64>
 
 // .. and the whitening keys of the two ends.
 fn exchanged(kw: Whitening<u64>) -> Whitening<u64>
-    ensures { result ≡ record { kw1 = kw.kw3; kw2 = kw.kw4; kw3 = kw.kw1; kw4 = kw.kw2 } }
+    ensures { result ≡ exchanged_of kw }
 {
     Whitening {
         kw1: kw.kw3,

@@ -55,6 +55,10 @@ impl Half for TableHalf {
 
     ghost told = { Prim.search rules };
 
+    fn xor(self, other: Self) -> Self {
+        TableHalf(self.0 ^ other.0)
+    }
+
     fn ps(self) -> Self {
         TableHalf(sums(self.0))
     }

@@ -48,6 +48,13 @@ impl Half for WordHalf {
 
     ghost told = { Prim.search rules };
 
+    fn xor(self, other: Self) -> Self {
+        WordHalf(Parts {
+            left: self.0.left ^ other.0.left,
+            right: self.0.right ^ other.0.right,
+        })
+    }
+
     fn ps(self) -> Self {
         let WordHalf(Parts { left, right }) = self;
         WordHalf(spread(substitute_left(left), substitute_right(right)))

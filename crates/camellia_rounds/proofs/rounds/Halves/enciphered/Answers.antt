@@ -1,18 +1,27 @@
-use Rattle.std.proofs.Common.{◌≡◌, ap, ◌∙◌, refl, rules}
-use Rattle.std.proofs.lemmas.Fn.{fold_over}
-use Rattle.camellia.specs.Rounds.{step, run, swapped, whitened}
+use Rattle.std.proofs.Common.{◌≡◌, refl, sym, ap, ◌∙◌, subst}
+use Rattle.std.proofs.lemmas.List.{map-id}
+use Rattle.std.proofs.iter.Yields.{gives_Drains}
+use Rattle.std.specs.Iterator.{Yields}
+use Rattle.camellia.specs.Rounds.{run, swapped, whitened}
 use Rattle.camellia.specs.Cipher.{encrypt}
-use Rattle.camellia_rounds.specs.Told.{state_of}
 use Rattle.camellia_rounds.proofs.Runs.{run-push}
 use Rattle.camellia_rounds.proofs.rounds.Halves.enciphered.Goals as goal
 
+pub loop-layer-init : goal.loop-layer-init
+unfolding run
+loop-layer-init g c = refl
+
+pub loop-layer-preserved : goal.loop-layer-preserved
+loop-layer-preserved g c = run-push c.loop-layer.yielded c.in-Some.layer _ _ _ c.loop-layer.invariant c.step-s.ensures
+
 pub returns : goal.returns
-unfolding encrypt run
+unfolding encrypt
 returns g c ys from =
-    let value = g.H.Half.value in
-    let start = c.whitened.result in
-    let end : state_of value c.fold.result ≡ run ys (state_of value start) =
-    fold_over g.I.Iterator.next_gives (λ y. y) _ (λ zs s. state_of value s ≡ run zs (state_of value start)) _
-    (λ zs a x b f' j k. let h : state_of value b ≡ step x (state_of value a) = search rules in (run-push zs x _ _ _ j h, refl))
-    c.args.layers ys _ _ from.runs refl c.fold.ensures.ran in
-    c.whitened-2.ensures ∙ ap (whitened c.args.kw.kw3 c.args.kw.kw4) (c.swapped.ensures ∙ ap swapped (end ∙ ap (run ys) c.whitened.ensures))
+    let next = g.I.Iterator.next_gives in
+    let xs = c.loop-layer.yielded in
+    let t = c.loop-layer.layer-iterator in
+    let by = subst (λ s. Yields next s xs t) c.into_iter-layer-iterator.ensures.into_iter_gives c.loop-layer.yielded_by in
+    let all : xs ≡ ys =
+    sym (map-id xs) ∙ gives_Drains next (λ y. y) xs ys c.args.layers from.runs (c.next.new.self, (t, by, c.in-None.ensures.steps)) in
+    c.whitened.ensures
+    ∙ ap (whitened c.args.kw.kw3 c.args.kw.kw4) (c.swapped.ensures ∙ ap swapped (c.loop-layer.invariant ∙ (λ i. run (all i) (c.whitened-s.ensures i))))
