@@ -1,14 +1,14 @@
 // The subkeys that a plan takes from the four sources.
-ghost use Rattle.std.specs.Prelude.{◌≡◌, map};
-ghost use Rattle.camellia.specs.Keys.{layer_of, whitening_of};
+ghost use Rattle.std.specs.Prelude.{◌≡◌, ◌≤◌, length};
+ghost use Rattle.camellia.specs.Keys.{layer_of, scheduled};
 ghost use Rattle.camellia_rounds.specs.Sources.{schedule_from};
 ghost use Rattle.camellia_rounds.specs.Told.{schedule_of};
 
 use crate::half::Half;
-use crate::schedule::{Schedule, Subkeys};
+use crate::schedule::Schedule;
 use crate::sources::Sources;
 use crate::subkey::subkey;
-use crate::tables::{PLAN_18, PLAN_24, Plan};
+use crate::tables::{Plan, plan_18, plan_24};
 use camellia::plan::{Layer, Material, Slot, Whitening};
 
 #[inline(always)]
@@ -21,13 +21,20 @@ fn layer(m: &Material, slots: Layer<Slot>) -> Layer<u64>
     }
 }
 
-impl<const N: usize> Subkeys<N> {
-    fn of(m: &Material, plan: &Plan<N>) -> Self
-        ensures kw { result.kw ≡ whitening_of m.now plan.now.kw }
-        ensures layers { result.layers ≡ map (layer_of m.now) plan.now.layers }
+impl Schedule {
+    // The key's layers.
+    pub(crate) fn layers(&self) -> &[Layer<u64>]
+        ensures { result.now ≡ (schedule_of self.now).layers }
+    {
+        &self.layers[..self.count]
+    }
+
+    fn planned(plan: &Plan, m: &Material) -> Self
+        requires { length plan.now.layers.now ≤ 27 }
+        ensures { schedule_of result ≡ scheduled m.now plan.now.kw plan.now.layers.now }
     {
         // A loop: an array's `map` takes four times as long, since the elements wait in an iterator first.
-        let mut layers = [Layer::Round(0); N];
+        let mut layers = [Layer::Round(0); 27];
         for (i, slots) in plan.layers.iter().enumerate() {
             layers[i] = layer(m, *slots);
         }
@@ -37,18 +44,20 @@ impl<const N: usize> Subkeys<N> {
             kw3: subkey(m, plan.kw.kw3),
             kw4: subkey(m, plan.kw.kw4),
         };
-        Subkeys { kw, layers }
+        Schedule {
+            kw,
+            layers,
+            count: plan.layers.len(),
+        }
     }
-}
 
-impl Schedule {
     pub(crate) fn of<H: Half>(sources: Sources) -> Self
         ensures { schedule_of result ≡ schedule_from sources }
     {
         let m = sources.material::<H>();
         match sources {
-            Sources::Rounds18(_) => Schedule::Rounds18(Subkeys::of(&m, &PLAN_18)),
-            Sources::Rounds24(_, _) => Schedule::Rounds24(Subkeys::of(&m, &PLAN_24)),
+            Sources::Rounds18(_) => Self::planned(&plan_18(), &m),
+            Sources::Rounds24(_, _) => Self::planned(&plan_24(), &m),
         }
     }
 }
