@@ -8,10 +8,9 @@ use crate::half::Half;
 use crate::schedule::Schedule;
 use crate::sources::Sources;
 use crate::subkey::subkey;
-use crate::tables::{Plan, plan_18, plan_24};
+use crate::tables::Plan;
 use camellia::plan::{Layer, Material, Slot, Whitening};
 
-#[inline(always)]
 fn layer(m: &Material, slots: Layer<Slot>) -> Layer<u64>
     ensures { result ≡ layer_of m.now slots }
 {
@@ -54,10 +53,6 @@ impl Schedule {
     pub(crate) fn of<H: Half>(sources: Sources) -> Self
         ensures { schedule_of result ≡ schedule_from sources }
     {
-        let m = sources.material::<H>();
-        match sources {
-            Sources::Rounds18(_) => Self::planned(&plan_18(), &m),
-            Sources::Rounds24(_, _) => Self::planned(&plan_24(), &m),
-        }
+        Self::planned(&Plan::of(sources), &sources.material::<H>())
     }
 }

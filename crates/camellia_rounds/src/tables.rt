@@ -1,7 +1,9 @@
 // Where each subkey comes from: source, rotation and side, as RFC 3713 lists them.
-ghost use Rattle.std.specs.Prelude.{◌≡◌};
-ghost use Rattle.camellia.specs.Keys.{whitening18, layers18, whitening24, layers24};
+ghost use Rattle.std.specs.Prelude.{◌≡◌, ◌≤◌, length};
+ghost use Rattle.camellia.specs.Keys.{scheduled};
+ghost use Rattle.camellia_rounds.specs.Sources.{material_of, schedule_from};
 
+use crate::sources::Sources;
 use camellia::plan::{Layer, Slot, Source, Whitening};
 
 // The whitening keys and the layers of a number of rounds.
@@ -78,24 +80,21 @@ static LAYERS_24: [Layer<Slot>; 27] = [
     Layer::Round(Slot::Right(Source::KL, 111)),
 ];
 
-// 18 rounds and 4 keys of FL, for 16-byte keys.
-pub(crate) fn plan_18() -> Plan
-    ensures kw { result.kw ≡ whitening18 }
-    ensures layers { result.layers.now ≡ layers18 }
-{
-    Plan {
-        kw: WHITENING_18,
-        layers: &LAYERS_18,
-    }
-}
-
-// 24 rounds and 6 keys of FL, for 24- and 32-byte keys.
-pub(crate) fn plan_24() -> Plan
-    ensures kw { result.kw ≡ whitening24 }
-    ensures layers { result.layers.now ≡ layers24 }
-{
-    Plan {
-        kw: WHITENING_24,
-        layers: &LAYERS_24,
+impl Plan {
+    // 18 rounds and 4 keys of FL, or 24 rounds and 6 keys of FL.
+    pub(crate) fn of(sources: Sources) -> Self
+        ensures schedule { scheduled (material_of sources) result.kw result.layers.now ≡ schedule_from sources }
+        ensures fits { length result.layers.now ≤ 27 }
+    {
+        match sources {
+            Sources::Rounds18(_) => Plan {
+                kw: WHITENING_18,
+                layers: &LAYERS_18,
+            },
+            Sources::Rounds24(_, _) => Plan {
+                kw: WHITENING_24,
+                layers: &LAYERS_24,
+            },
+        }
     }
 }
