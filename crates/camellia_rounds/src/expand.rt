@@ -50,6 +50,8 @@ impl Schedule {
         }
     }
 
+    // Compiled into each caller, where it writes the schedule in place.
+    #[inline(always)]
     pub(crate) fn of<H: Half>(sources: Sources) -> Self
         ensures { schedule_of result ≡ schedule_from sources }
     {
