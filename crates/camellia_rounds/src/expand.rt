@@ -1,6 +1,6 @@
 // The subkeys that a plan takes from the four sources.
-ghost use Rattle.std.specs.Prelude.{◌≡◌, ◌≤◌, length};
-ghost use Rattle.camellia.specs.Keys.{layer_of, scheduled};
+ghost use Rattle.std.specs.Prelude.{◌≡◌};
+ghost use Rattle.camellia.specs.Keys.{layer_of};
 ghost use Rattle.camellia_rounds.specs.Sources.{schedule_from};
 ghost use Rattle.camellia_rounds.specs.Told.{schedule_of};
 
@@ -28,33 +28,26 @@ impl Schedule {
         &self.layers[..self.count]
     }
 
-    fn planned(plan: &Plan, m: &Material) -> Self
-        requires { length plan.now.layers.now ≤ 27 }
-        ensures { schedule_of result ≡ scheduled m.now plan.now.kw plan.now.layers.now }
+    pub(crate) fn of<H: Half>(sources: Sources) -> Self
+        ensures { schedule_of result ≡ schedule_from sources }
     {
+        let m = sources.material::<H>();
+        let plan = Plan::of(sources);
         // A loop: an array's `map` takes four times as long, since the elements wait in an iterator first.
         let mut layers = [Layer::Round(0); 27];
         for (i, slots) in plan.layers.iter().enumerate() {
-            layers[i] = layer(m, *slots);
+            layers[i] = layer(&m, *slots);
         }
         let kw = Whitening {
-            kw1: subkey(m, plan.kw.kw1),
-            kw2: subkey(m, plan.kw.kw2),
-            kw3: subkey(m, plan.kw.kw3),
-            kw4: subkey(m, plan.kw.kw4),
+            kw1: subkey(&m, plan.kw.kw1),
+            kw2: subkey(&m, plan.kw.kw2),
+            kw3: subkey(&m, plan.kw.kw3),
+            kw4: subkey(&m, plan.kw.kw4),
         };
         Schedule {
             kw,
             layers,
             count: plan.layers.len(),
         }
-    }
-
-    // Compiled into each caller, where it writes the schedule in place.
-    #[inline(always)]
-    pub(crate) fn of<H: Half>(sources: Sources) -> Self
-        ensures { schedule_of result ≡ schedule_from sources }
-    {
-        Self::planned(&Plan::of(sources), &sources.material::<H>())
     }
 }
