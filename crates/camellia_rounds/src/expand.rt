@@ -11,6 +11,8 @@ use crate::subkey::subkey;
 use crate::tables::Plan;
 use camellia::plan::{Layer, Material, Slot, Whitening};
 
+// Called for each layer of each key: a call that gives a layer through memory takes longer than the layer.
+#[inline(always)]
 fn layer(m: &Material, slots: Layer<Slot>) -> Layer<u64>
     ensures { result ≡ layer_of m.now slots }
 {
