@@ -1,12 +1,11 @@
 -- What the types of the code stand for in the definition of the cipher.
-use Rattle.std.specs.Prelude.{ℕ, List}
+use Rattle.std.specs.Prelude.{ℕ, List, take}
 use Rattle.camellia.specs.Rounds.{State, st}
 use Rattle.camellia.specs.Keys as camellia
 use Rattle.camellia.specs.Cipher.{enciphered, deciphered}
 use Rattle.camellia.specs.declared.plan.Whitening.{Whitening}
 use Rattle.camellia_rounds.specs.declared.rounds.Halves.{Halves}
 use Rattle.camellia_rounds.specs.declared.schedule.Schedule.{Schedule}
-use Rattle.camellia_rounds.specs.declared.schedule.Schedule.TheVariants.{Rounds18, Rounds24}
 use Rattle.camellia_rounds.specs.declared.cipher.Camellia.{Camellia}
 
 -- two halves of any form, by the number that a half is
@@ -14,8 +13,7 @@ abbrev pub state_of : {H : Type 0} → (H → ℕ) → Halves H → State
 state_of value s = st (value s.left) (value s.right)
 
 abbrev pub schedule_of : Schedule → camellia.Schedule
-schedule_of (Rounds18 s) = record { kw = s.kw; layers = s.layers }
-schedule_of (Rounds24 s) = record { kw = s.kw; layers = s.layers }
+schedule_of s = record { kw = s.kw; layers = take s.count s.layers }
 
 -- the whitening keys of the two ends change places
 abbrev pub exchanged : Whitening ℕ → Whitening ℕ

@@ -105,7 +105,7 @@ impl<H: Half> Halves<H> {
     pub(crate) fn encrypted(self, k: &Schedule) -> Self
         ensures { state_of H.value result ≡ encrypt_of (schedule_of k.now) (state_of H.value self) }
     {
-        self.enciphered(k.kw(), k.layers().iter().copied())
+        self.enciphered(k.kw, k.layers().iter().copied())
     }
 
     pub(crate) fn decrypted(self, k: &Schedule) -> Self
@@ -113,7 +113,7 @@ impl<H: Half> Halves<H> {
             ≡ encrypt_of (reversed (schedule_of k.now)) (state_of H.value self) }
     {
         let layers = k.layers().iter().rev();
-        self.enciphered(exchanged(k.kw()), layers.map(|layer| turned(*layer)))
+        self.enciphered(exchanged(k.kw), layers.map(|layer| turned(*layer)))
     }
 }
 

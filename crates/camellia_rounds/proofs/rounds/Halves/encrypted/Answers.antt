@@ -1,12 +1,9 @@
-use Rattle.std.proofs.Common.{◌∙◌}
 use Rattle.std.proofs.lemmas.Iterator.{YieldsList-from_slice}
 use Rattle.std.proofs.lemmas.Iterator.Consumers.{YieldsList-from_copied}
-use Rattle.camellia.specs.Cipher.{encrypt}
-use Rattle.camellia_rounds.specs.Told.{state_of, schedule_of}
+use Rattle.camellia_rounds.specs.Told.{schedule_of}
 use Rattle.camellia_rounds.proofs.rounds.Halves.encrypted.Goals as goal
 
 pub returns : goal.returns
 returns g c =
     let layers = (schedule_of c.args.k.now).layers in
     c.enciphered.ensures layers (YieldsList-from_copied (YieldsList-from_slice layers cc))
-    ∙ (λ i. encrypt (record { kw = c.kw.ensures i; layers = layers }) (state_of g.H.Half.value c.args.self))
