@@ -7,6 +7,7 @@ use crate::keys::{FlKeys, Group, Groups, Subkeys};
 use camellia::plan::{Material, Slot, Whitening};
 use camellia_rounds::subkey::subkey;
 
+// Key by key: with the array's `map` it stays open in the proof that each call of the closure sees the same `m`.
 #[inline(always)]
 fn rounds(slots: [Slot; 6], m: &Material) -> [u64; 6]
     ensures { result ≡ map (subkey_of m.now) slots }
