@@ -14,7 +14,7 @@ use camellia_subkeys::keys::{FlKeys, FoldedKeys, Group, Groups};
 use camellia_tables::half::{f, fl, fl_inverse};
 
 // The left halves and the right halves of N blocks, each in an array of their own: with the two halves of a block side by side
-// eight blocks take from 1.04 to 1.8 times as long, by how the rounds are written.
+// eight blocks take from 1.02 to 1.8 times as long, by how the rounds are written.
 #[derive(Drop)]
 pub(crate) struct Blocks<const N: usize> {
     pub left: [u64; N],
