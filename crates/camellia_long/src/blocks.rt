@@ -7,12 +7,14 @@ ghost use Rattle.camellia.specs.Keys.{reversed};
 ghost use Rattle.camellia.specs.Cipher.{to_state, to_bytes, encrypt as encrypt_of};
 ghost use Rattle.camellia.specs.declared.plan.Layer.TheVariants.{Round, Fl};
 ghost use Rattle.camellia_subkeys.specs.Groups.{rounds_of, group_of, layers_of, schedule_of};
-ghost use Rattle.camellia_long.specs.Wide.{Mixed, blocks_of};
+ghost use Rattle.camellia_long.specs.Wide.{Mixed, states, blocks_of};
 
 use camellia_rounds::bytes::{block, halves};
 use camellia_subkeys::keys::{FlKeys, FoldedKeys, Group, Groups};
 use camellia_tables::half::{f, fl, fl_inverse};
 
+// The left halves and the right halves of N blocks, each in an array of their own: with the two halves of a block side by side
+// eight blocks take from 1.02 to 1.8 times as long, by how the rounds are written.
 #[derive(Drop)]
 pub(crate) struct Blocks<const N: usize> {
     pub left: [u64; N],
@@ -27,6 +29,15 @@ fn round<const N: usize>(to: &mut [u64; N], from: &[u64; N], k: u64)
     for (i, x) in from.iter().enumerate() {
         to[i] ^= f(*x, k);
     }
+}
+
+// Two rounds leave the halves where they were. They are given the arrays and not the struct: of its two arrays LLVM knows that
+// they lie apart, puts neighbouring blocks into vectors, and takes 3 % longer for eight.
+fn two<const N: usize>(left: &mut [u64; N], right: &mut [u64; N], k: u64, m: u64)
+    ensures { states left.new right.new ≡ map (run (Round k ∷ Round m ∷ [])) (states left.old right.old) }
+{
+    round(right, left, k);
+    round(left, right, m);
 }
 
 fn whiten<const N: usize>(halves: &mut [u64; N], k: u64)
@@ -58,14 +69,6 @@ impl<const N: usize> Blocks<N> {
         }
     }
 
-    // Two rounds leave the halves where they were.
-    fn two(&mut self, k: u64, m: u64)
-        ensures { blocks_of self.new ≡ map (run (Round k ∷ Round m ∷ [])) (blocks_of self.old) }
-    {
-        round(&mut self.right, &self.left, k);
-        round(&mut self.left, &self.right, m);
-    }
-
     fn fl(&mut self, left: u64, right: u64)
         ensures { blocks_of self.new ≡ map (run (Fl left right ∷ [])) (blocks_of self.old) }
     {
@@ -77,20 +80,22 @@ impl<const N: usize> Blocks<N> {
         }
     }
 
+    #[inline(always)]
     fn rounds(&mut self, k: &[u64; 6])
         ensures { blocks_of self.new ≡ map (run (rounds_of k.now)) (blocks_of self.old) }
     {
-        self.two(k[0], k[1]);
-        self.two(k[2], k[3]);
-        self.two(k[4], k[5]);
+        two(&mut self.left, &mut self.right, k[0], k[1]);
+        two(&mut self.left, &mut self.right, k[2], k[3]);
+        two(&mut self.left, &mut self.right, k[4], k[5]);
     }
 
+    #[inline(always)]
     fn rounds_back(&mut self, k: &[u64; 6])
         ensures { blocks_of self.new ≡ map (run (backward_of (rounds_of k.now))) (blocks_of self.old) }
     {
-        self.two(k[5], k[4]);
-        self.two(k[3], k[2]);
-        self.two(k[1], k[0]);
+        two(&mut self.left, &mut self.right, k[5], k[4]);
+        two(&mut self.left, &mut self.right, k[3], k[2]);
+        two(&mut self.left, &mut self.right, k[1], k[0]);
     }
 
     fn group(&mut self, group: &Group<u64>)
@@ -108,6 +113,8 @@ impl<const N: usize> Blocks<N> {
         self.fl(group.fl.right, group.fl.left);
     }
 
+    // Each way through the layers is written out. Turned round for a call instead, the keys cost 6 % of eight blocks and 8 % of
+    // one; and a type for the way would hold the same two bodies.
     fn forward(&mut self, groups: &Groups<u64>)
         ensures { blocks_of self.new ≡ map (run (layers_of groups.now)) (blocks_of self.old) }
     {

@@ -1,12 +1,10 @@
 -- What the types of the code stand for in the definition of the cipher.
-use Rattle.std.specs.Prelude.{ℕ, List}
+use Rattle.std.specs.Prelude.{ℕ, List, take}
 use Rattle.camellia.specs.Rounds.{State, st}
 use Rattle.camellia.specs.Keys as camellia
 use Rattle.camellia.specs.Cipher.{enciphered, deciphered}
+use Rattle.camellia.specs.declared.plan.Whitening.{Whitening}
 use Rattle.camellia_rounds.specs.declared.rounds.Halves.{Halves}
-use Rattle.camellia.specs.declared.plan.Layer.{Layer}
-use Rattle.camellia_rounds.specs.declared.schedule.Layers.{Layers}
-use Rattle.camellia_rounds.specs.declared.schedule.Layers.TheVariants.{Rounds18, Rounds24}
 use Rattle.camellia_rounds.specs.declared.schedule.Schedule.{Schedule}
 use Rattle.camellia_rounds.specs.declared.cipher.Camellia.{Camellia}
 
@@ -14,12 +12,12 @@ use Rattle.camellia_rounds.specs.declared.cipher.Camellia.{Camellia}
 abbrev pub state_of : {H : Type 0} → (H → ℕ) → Halves H → State
 state_of value s = st (value s.left) (value s.right)
 
-abbrev pub layers_of : Layers → List (Layer ℕ)
-layers_of (Rounds18 ys) = ys
-layers_of (Rounds24 ys) = ys
-
 abbrev pub schedule_of : Schedule → camellia.Schedule
-schedule_of s = record { kw = s.kw; layers = layers_of s.layers }
+schedule_of s = record { kw = s.kw; layers = take s.count s.layers }
+
+-- the whitening keys of the two ends change places
+abbrev pub exchanged : Whitening ℕ → Whitening ℕ
+exchanged w = record { kw1 = w.kw3; kw2 = w.kw4; kw3 = w.kw1; kw4 = w.kw2 }
 
 -- E and D of the key held
 abbrev pub enciphers_of : {H : Type 0} → Camellia H → List ℕ → List ℕ

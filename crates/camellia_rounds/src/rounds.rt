@@ -7,7 +7,7 @@ ghost use Rattle.std.proofs.lemmas.Iterator.{YieldsList};
 ghost use Rattle.camellia.specs.declared.plan.Layer.{Layer};
 ghost use Rattle.camellia.specs.Rounds.{st, step as step_of, swapped as swapped_of, whitened as whitened_of, turned as turned_of};
 ghost use Rattle.camellia.specs.declared.plan.Layer.TheVariants.{Round, Fl};
-ghost use Rattle.camellia_rounds.specs.Told.{state_of, schedule_of};
+ghost use Rattle.camellia_rounds.specs.Told.{state_of, schedule_of, exchanged as exchanged_of};
 
 use crate::half::Half;
 use crate::schedule::Schedule;
@@ -105,14 +105,14 @@ impl<H: Half> Halves<H> {
     pub(crate) fn encrypted(self, k: &Schedule) -> Self
         ensures { state_of H.value result ≡ encrypt_of (schedule_of k.now) (state_of H.value self) }
     {
-        self.enciphered(k.kw, k.layers.as_slice().iter().copied())
+        self.enciphered(k.kw, k.layers().iter().copied())
     }
 
     pub(crate) fn decrypted(self, k: &Schedule) -> Self
         ensures { state_of H.value result
             ≡ encrypt_of (reversed (schedule_of k.now)) (state_of H.value self) }
     {
-        let layers = k.layers.as_slice().iter().rev();
+        let layers = k.layers().iter().rev();
         self.enciphered(exchanged(k.kw), layers.map(|layer| turned(*layer)))
     }
 }
@@ -129,7 +129,7 @@ fn turned(layer: Layer<u64>) -> Layer<u64>
 
 // .. and the whitening keys of the two ends.
 fn exchanged(kw: Whitening<u64>) -> Whitening<u64>
-    ensures { result ≡ record { kw1 = kw.kw3; kw2 = kw.kw4; kw3 = kw.kw1; kw4 = kw.kw2 } }
+    ensures { result ≡ exchanged_of kw }
 {
     Whitening {
         kw1: kw.kw3,

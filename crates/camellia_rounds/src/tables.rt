@@ -1,15 +1,26 @@
 // Where each subkey comes from: source, rotation and side, as RFC 3713 lists them.
+ghost use Rattle.std.specs.Prelude.{◌≡◌, ◌≤◌, length};
+ghost use Rattle.camellia.specs.Keys.{scheduled};
+ghost use Rattle.camellia_rounds.specs.Sources.{material_of, schedule_from};
+
+use crate::sources::Sources;
 use camellia::plan::{Layer, Slot, Source, Whitening};
 
-// 18 rounds and 4 keys of FL, for 16-byte keys.
-pub(crate) const WHITENING_18: Whitening<Slot> = Whitening {
+// The whitening keys and the layers of a number of rounds.
+#[derive(Clone, Copy)]
+pub(crate) struct Plan {
+    pub kw: Whitening<Slot>,
+    pub layers: &'static [Layer<Slot>],
+}
+
+const WHITENING_18: Whitening<Slot> = Whitening {
     kw1: Slot::Left(Source::KL, 0),
     kw2: Slot::Right(Source::KL, 0),
     kw3: Slot::Left(Source::KA, 111),
     kw4: Slot::Right(Source::KA, 111),
 };
 
-pub(crate) const LAYERS_18: [Layer<Slot>; 20] = [
+static LAYERS_18: [Layer<Slot>; 20] = [
     Layer::Round(Slot::Left(Source::KA, 0)),
     Layer::Round(Slot::Right(Source::KA, 0)),
     Layer::Round(Slot::Left(Source::KL, 15)),
@@ -32,15 +43,14 @@ pub(crate) const LAYERS_18: [Layer<Slot>; 20] = [
     Layer::Round(Slot::Right(Source::KL, 111)),
 ];
 
-// 24 rounds and 6 keys of FL, for 24- and 32-byte keys.
-pub(crate) const WHITENING_24: Whitening<Slot> = Whitening {
+const WHITENING_24: Whitening<Slot> = Whitening {
     kw1: Slot::Left(Source::KL, 0),
     kw2: Slot::Right(Source::KL, 0),
     kw3: Slot::Left(Source::KB, 111),
     kw4: Slot::Right(Source::KB, 111),
 };
 
-pub(crate) const LAYERS_24: [Layer<Slot>; 27] = [
+static LAYERS_24: [Layer<Slot>; 27] = [
     Layer::Round(Slot::Left(Source::KB, 0)),
     Layer::Round(Slot::Right(Source::KB, 0)),
     Layer::Round(Slot::Left(Source::KR, 15)),
@@ -69,3 +79,22 @@ pub(crate) const LAYERS_24: [Layer<Slot>; 27] = [
     Layer::Round(Slot::Left(Source::KL, 111)),
     Layer::Round(Slot::Right(Source::KL, 111)),
 ];
+
+impl Plan {
+    // 18 rounds and 4 keys of FL, or 24 rounds and 6 keys of FL.
+    pub(crate) fn of(sources: Sources) -> Self
+        ensures schedule { scheduled (material_of sources) result.kw result.layers.now ≡ schedule_from sources }
+        ensures fits { length result.layers.now ≤ 27 }
+    {
+        match sources {
+            Sources::Rounds18(_) => Plan {
+                kw: WHITENING_18,
+                layers: &LAYERS_18,
+            },
+            Sources::Rounds24(_, _) => Plan {
+                kw: WHITENING_24,
+                layers: &LAYERS_24,
+            },
+        }
+    }
+}

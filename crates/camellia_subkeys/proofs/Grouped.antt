@@ -1,7 +1,8 @@
 -- Lists of six keys, and their rounds.
-use Rattle.std.proofs.Common.{ℕ, List, [], ◌∷◌, ◌++◌, ◌≡◌, refl, map, length, get_or, ap, sym, ◌∙◌, ap₂, arith, flat_map, option_to_list, Option, Some, None}
+use Rattle.std.proofs.Common.{ℕ, List, [], ◌∷◌, ◌++◌, ◌≡◌, refl, map, length, get_or, ap, sym, ◌∙◌, ap₂, flat_map, option_to_list, Option, Some, None}
 use Rattle.std.proofs.lemmas.List.{append-nil, append_assoc}
-use mathlib.Core.List.{map-append}
+use Rattle.std.proofs.lemmas.List.FromFn.{fill_by_all}
+use mathlib.Core.List.{map-append, map-map}
 use Rattle.camellia.specs.Rounds.{turned, backward}
 use Rattle.camellia.specs.Keys.{subkey, layer_of}
 use Rattle.camellia.specs.declared.plan.Material.{Material}
@@ -15,19 +16,11 @@ use Rattle.camellia_subkeys.specs.declared.keys.Groups.{Groups}
 -- six keys, one by one
 pub one_by_one : (k : List ℕ) → length k ≡ 6
     → k ≡ get_or k 0 0 ∷ get_or k 1 0 ∷ get_or k 2 0 ∷ get_or k 3 0 ∷ get_or k 4 0 ∷ get_or k 5 0 ∷ []
-one_by_one [] n = absurd (omega arith)
-one_by_one (a ∷ []) n = absurd (omega arith)
-one_by_one (a ∷ b ∷ []) n = absurd (omega arith)
-one_by_one (a ∷ b ∷ c ∷ []) n = absurd (omega arith)
-one_by_one (a ∷ b ∷ c ∷ d ∷ []) n = absurd (omega arith)
-one_by_one (a ∷ b ∷ c ∷ d ∷ e ∷ []) n = absurd (omega arith)
-one_by_one (a ∷ b ∷ c ∷ d ∷ e ∷ f ∷ []) n = refl
-one_by_one (a ∷ b ∷ c ∷ d ∷ e ∷ f ∷ g ∷ k) n = absurd (omega arith)
+one_by_one k n = fill_by_all (λ i. get_or k i 0) k 6 0 n (λ i h. refl)
 
 -- rounds under a plan are rounds of its subkeys
 pub planned : (m : Material) (k : List Slot) → map (layer_of m) (rounds_of k) ≡ rounds_of (map (subkey m) k)
-planned m [] = refl
-planned m (s ∷ k) = ap (λ ys. Round (subkey m s) ∷ ys) (planned m k)
+planned m k = map-map (layer_of m) (λ s. Round s) k ∙ sym (map-map (λ (x : ℕ). Round x) (subkey m) k)
 
 -- groups under a plan, part by part
 module _ (f : Layer Slot → Layer ℕ) where

@@ -1,15 +1,11 @@
 // Where each subkey comes from, as RFC 3713 lists them.
-ghost use Rattle.std.specs.Prelude.{◌≡◌};
-ghost use Rattle.camellia.specs.Keys.{whitening18, layers18, whitening24, layers24};
-ghost use Rattle.camellia_subkeys.specs.Groups.{layers_of};
-
 use crate::keys::{FlKeys, Group, Groups, Subkeys};
 use camellia::plan::Slot::{Left, Right};
 use camellia::plan::Source::{KA, KB, KL, KR};
 use camellia::plan::{Slot, Whitening};
 
 // For 16-byte keys.
-const PLAN_18: Subkeys<Slot> = Subkeys {
+pub(crate) const PLAN_18: Subkeys<Slot> = Subkeys {
     kw: Whitening {
         kw1: Left(KL, 0),
         kw2: Right(KL, 0),
@@ -58,7 +54,7 @@ const PLAN_18: Subkeys<Slot> = Subkeys {
 };
 
 // For 24- and 32-byte keys.
-const PLAN_24: Subkeys<Slot> = Subkeys {
+pub(crate) const PLAN_24: Subkeys<Slot> = Subkeys {
     kw: Whitening {
         kw1: Left(KL, 0),
         kw2: Right(KL, 0),
@@ -118,19 +114,3 @@ const PLAN_24: Subkeys<Slot> = Subkeys {
         }),
     },
 };
-
-#[inline(always)]
-pub(crate) fn plan_18() -> Subkeys<Slot>
-    ensures whitening { result.kw ≡ whitening18 }
-    ensures layers { layers_of result.groups ≡ layers18 }
-{
-    PLAN_18
-}
-
-#[inline(always)]
-pub(crate) fn plan_24() -> Subkeys<Slot>
-    ensures whitening { result.kw ≡ whitening24 }
-    ensures layers { layers_of result.groups ≡ layers24 }
-{
-    PLAN_24
-}

@@ -5,8 +5,7 @@ ghost use Rattle.camellia_rounds.specs.Sources.{schedule_from};
 ghost use Rattle.camellia_subkeys.specs.Groups.{schedule_of};
 
 use crate::keys::FoldedKeys;
-use crate::plans::{plan_18, plan_24};
-use crate::subkeys::subkeys;
+use crate::plans::{PLAN_18, PLAN_24};
 use camellia_rounds::sources::Sources;
 use camellia_tables::half::TableHalf;
 
@@ -16,8 +15,8 @@ impl From<Sources> for FoldedKeys {
     fn from(sources: Sources) -> Self {
         let m = sources.material::<TableHalf>();
         match sources {
-            Sources::Rounds18(_) => subkeys(&plan_18(), &m).folded(),
-            Sources::Rounds24(_, _) => subkeys(&plan_24(), &m).folded(),
+            Sources::Rounds18(_) => PLAN_18.keys(&m).folded(),
+            Sources::Rounds24(_, _) => PLAN_24.keys(&m).folded(),
         }
     }
 }

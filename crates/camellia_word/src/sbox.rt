@@ -1,6 +1,6 @@
 // S: a table for each substitution, and the substitution of a word's bytes.
-ghost use Rattle.std.specs.Prelude.{◌≡◌};
-ghost use Rattle.camellia_word.specs.Tables.{first, second, third, fourth, left_s, right_s};
+ghost use Rattle.std.specs.Prelude.{◌≡◌, ◌/◌, ◌%◌, ◌^◌, slice_index};
+ghost use Rattle.camellia_word.specs.Tables.{join4, left_s, right_s};
 
 #[rattlefmt::skip]
 const S1: [u8; 256] = [
@@ -82,42 +82,24 @@ const S4: [u8; 256] = [
     7, 85, 238, 10, 73, 104, 56, 164, 40, 123, 201, 193, 227, 244, 199, 158,
 ];
 
-fn s1(x: u8) -> u8
-    ensures { result ≡ first S1 x }
+// The four bytes of a word, each by a table of its own.
+fn substitute(a: &[u8; 256], b: &[u8; 256], c: &[u8; 256], d: &[u8; 256], x: u32) -> u32
+    ensures { result ≡ join4 (slice_index a.now (x / 2 ^ 24 % 256)) (slice_index b.now (x / 2 ^ 16 % 256)) (slice_index c.now (x / 2 ^ 8 % 256)) (slice_index d.now (x % 256)) }
 {
-    S1[x as usize]
-}
-
-fn s2(x: u8) -> u8
-    ensures { result ≡ second S1 x }
-{
-    S2[x as usize]
-}
-
-fn s3(x: u8) -> u8
-    ensures { result ≡ third S1 x }
-{
-    S3[x as usize]
-}
-
-fn s4(x: u8) -> u8
-    ensures { result ≡ fourth S1 x }
-{
-    S4[x as usize]
+    let [e, f, g, h] = x.to_be_bytes();
+    u32::from_be_bytes([a[e as usize], b[f as usize], c[g as usize], d[h as usize]])
 }
 
 // Bytes 1 to 4 of a half go through s1, s2, s3, s4.
 pub(crate) fn substitute_left(x: u32) -> u32
     ensures { result ≡ left_s S1 x }
 {
-    let [a, b, c, d] = x.to_be_bytes();
-    u32::from_be_bytes([s1(a), s2(b), s3(c), s4(d)])
+    substitute(&S1, &S2, &S3, &S4, x)
 }
 
 // Bytes 5 to 8 go through s2, s3, s4, s1.
 pub(crate) fn substitute_right(x: u32) -> u32
     ensures { result ≡ right_s S1 x }
 {
-    let [a, b, c, d] = x.to_be_bytes();
-    u32::from_be_bytes([s2(a), s3(b), s4(c), s1(d)])
+    substitute(&S2, &S3, &S4, &S1, x)
 }

@@ -1,6 +1,0 @@
-use Rattle.std.proofs.Common.{◌≡◌, map, length, take}
-use Rattle.camellia.specs.Keys.{layer_of}
-use Rattle.camellia_rounds.proofs.expand.layers.Given as goal
-
-abbrev pub invariant-loop-i : goal.invariant-loop-i
-invariant-loop-i g l = (length l.layers ≡ length l.slots) × (take l.i l.layers ≡ map (layer_of l.m) (take l.i l.slots))
