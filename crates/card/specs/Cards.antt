@@ -1,6 +1,7 @@
 -- A card in the code, in the words of the law.
-use Rattle.std.specs.Prelude.{ℕ, Bool, if◌then◌else◌, not, ◌&&◌, List, [], ◌∷◌, Ok, Err, Result, ◌==◌, nat_le}
+use Rattle.std.specs.Prelude.{◌≡◌, ℕ, Bool, if◌then◌else◌, not, ◌&&◌, List, [], ◌∷◌, length, replicate, Ok, Err, Result, ◌==◌, nat_le}
 use Rattle.std.specs.Str.{bytes_eq}
+use Rattle.octets.specs.Octets.{Bytes}
 use Rattle.refusal.specs.declared.Refusal.{Refusal}
 use Rattle.refusal.specs.declared.Refusal.TheVariants.{WrongState, KeyLength, CardBufferLength, LabelFrame, FrameNumber, WornFrame, OtherKeys}
 use Rattle.engine.specs.declared.Engine as engine
@@ -30,6 +31,11 @@ outcome e s c k = model.act (kind_of e) (card_in e c) (store_in s c.store) k
 -- a call of the card `c` answered and left the card `d` as the law's model does
 abbrev pub Does : {E S : Type 0} → engine.Ghosts E → store.Ghosts S → Card E S → Call → Answer → Card E S → Type 0
 Does e s c k a d = ComesTo (outcome e s c k) a (card_in e d) (store_in s d.store)
+
+-- lent key bytes: bytes, and zero when they are given back
+pub record Zeroed (lent left : List ℕ) : Type 0 where
+  pub bytes : Bytes lent
+  pub zeroed : left ≡ replicate (length lent) 0
 
 -- a call that does not belong to the state (0 unmounted, 1 at rest, 2 changing)
 abbrev pub stray : ℕ → Kind → Bool

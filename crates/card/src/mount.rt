@@ -1,13 +1,12 @@
 // Mounting a card that was made here or elsewhere.
-ghost use Rattle.std.specs.Prelude.{◌≡◌, ◌*◌, ◌&&◌, length, replicate, ◌==◌};
+ghost use Rattle.std.specs.Prelude.{◌≡◌, ◌*◌, ◌&&◌, length, ◌==◌};
 ghost use Rattle.std.specs.Str.{bytes_eq};
-ghost use Rattle.octets.specs.Octets.{Bytes};
 ghost use Rattle.sealing.specs.Pair.{paired};
 ghost use Rattle.label.specs.Told.{told};
 ghost use Rattle.law.specs.Calls.{mount, mounted};
 ghost use Rattle.law.specs.Checks.{second_fits};
 ghost use Rattle.calls.specs.Replies.{answer_of, state_number};
-ghost use Rattle.card.specs.Cards.{Does};
+ghost use Rattle.card.specs.Cards.{Does, Zeroed};
 
 use crate::belongs::{Kind, belongs};
 use crate::card::Card;
@@ -42,10 +41,8 @@ fn fits(label: &Label, pair: &[u8], second: &[u8]) -> bool
 impl<E: Engine + Drop, S: Store> Card<E, S> {
     // In a key change it takes both pairs; at rest the second one is empty.
     pub fn mount(&mut self, pair: &mut [u8], second: &mut [u8]) -> Result<State, Refusal>
-        ensures bytes { Bytes pair.old }
-        ensures second_bytes { Bytes second.old }
-        ensures zeroed { pair.new ≡ replicate (length pair.old) 0 }
-        ensures second_zeroed { second.new ≡ replicate (length second.old) 0 }
+        ensures keys { Zeroed pair.old pair.new }
+        ensures second_keys { Zeroed second.old second.new }
         ensures done { Does E.Engine S.Store self.old (mount pair.old second.old) (answer_of (λ s. mounted (state_number s)) result) self.new }
     {
         octets(pair);
