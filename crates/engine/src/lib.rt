@@ -53,6 +53,7 @@ pub trait Engine: Sized {
         ensures { block.new ≡ deciphers self.now block.old };
 
     // The eight blocks of a frame at once; an engine that gains by it writes its own.
+    // Two bodies, one for each way: one body would take the way as a closure and be longer than both.
     fn encipher_eight(&self, blocks: &mut [[u8; 16]; 8])
         ensures { blocks.new ≡ map (enciphers self.now) blocks.old }
     {

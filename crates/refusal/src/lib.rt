@@ -4,12 +4,12 @@
 ghost use Rattle.std.specs.Prelude.{◌≡◌};
 ghost use Rattle.refusal.specs.Code.{code, layer_number};
 
-// The layer that refused.
+// The layer that refused, with its number.
 #[derive(Clone, Copy, PartialEq, Eq, Debug)]
 pub enum Layer {
-    Card,
-    Store,
-    Cipher,
+    Card = 1,
+    Store = 2,
+    Cipher = 3,
 }
 
 #[derive(Clone, Copy, PartialEq, Eq, Debug)]
@@ -46,14 +46,11 @@ impl Layer {
     pub fn number(self) -> u8
         ensures { result ≡ layer_number self }
     {
-        match self {
-            Layer::Card => 1,
-            Layer::Store => 2,
-            Layer::Cipher => 3,
-        }
+        self as u8
     }
 }
 
+// Tables of cases: a case with a frame can't have its number at the enum, and the layer and the frame are its other two values.
 impl Refusal {
     pub fn number(self) -> u8
         ensures { result ≡ (code self).number }
