@@ -1,18 +1,19 @@
 -- A card in the code, in the words of the law.
-use Rattle.std.specs.Prelude.{◌≡◌, ℕ, Bool, if◌then◌else◌, not, ◌&&◌, List, [], ◌∷◌, length, replicate, Ok, Err, Result, ◌==◌, nat_le}
+use Rattle.std.specs.Prelude.{◌≡◌, ℕ, ◌*◌, Bool, if◌then◌else◌, not, ◌&&◌, List, [], ◌∷◌, length, replicate, Ok, Err, Result, ◌==◌, nat_le}
 use Rattle.std.specs.Str.{bytes_eq}
 use Rattle.octets.specs.Octets.{Bytes}
 use Rattle.refusal.specs.declared.Refusal.{Refusal}
-use Rattle.refusal.specs.declared.Refusal.TheVariants.{WrongState, KeyLength, CardBufferLength, LabelFrame, FrameNumber, WornFrame, OtherKeys}
+use Rattle.refusal.specs.declared.Refusal.TheVariants.{WrongState, PairLength, KeyLength, CardBufferLength, LabelFrame, FrameNumber, WornFrame, OtherKeys}
 use Rattle.engine.specs.declared.Engine as engine
 use Rattle.store.specs.declared.Store as store
+use Rattle.sealing.specs.Pair.{paired}
 use Rattle.label.specs.Told.{fields_in}
 use Rattle.label.specs.Text.{Fields}
 use Rattle.law.specs.Kind as law
 use Rattle.law.specs.Kind.{keys_of, check_of, half_taken}
 use Rattle.law.specs.Store.{Store, size}
 use Rattle.law.specs.Calls.{Call, Answer}
-use Rattle.law.specs.Checks.{Check, second_checks}
+use Rattle.law.specs.Checks.{Check, second_fits, second_checks}
 use Rattle.law.specs.Model as model
 use Rattle.calls.specs.Replies.{ComesTo}
 use Rattle.sealed_store.specs.Told.{kind_of, keys_in, store_in}
@@ -62,6 +63,7 @@ slot_checks s n len =
 -- the last checks of a mount
 abbrev pub key_checks : law.Kind → Fields → List ℕ → List ℕ → List Check
 key_checks M l p q =
-    (not (half_taken M p), KeyLength)
+    (not (paired (length p) && l.keybits == 4 * length p && second_fits l.next p q), PairLength)
+    ∷ (not (half_taken M p), KeyLength)
     ∷ (not (bytes_eq (check_of (keys_of M p)) l.check && second_checks M l.next q), OtherKeys)
     ∷ []

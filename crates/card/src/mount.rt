@@ -1,10 +1,5 @@
 // Mounting a card that was made here or elsewhere.
-ghost use Rattle.std.specs.Prelude.{◌≡◌, ◌*◌, ◌&&◌, length, ◌==◌};
-ghost use Rattle.std.specs.Str.{bytes_eq};
-ghost use Rattle.sealing.specs.Pair.{paired};
-ghost use Rattle.label.specs.Told.{told};
 ghost use Rattle.law.specs.Calls.{mount, mounted};
-ghost use Rattle.law.specs.Checks.{second_fits};
 ghost use Rattle.calls.specs.Replies.{answer_of, state_number};
 ghost use Rattle.card.specs.Cards.{Does, Zeroed};
 
@@ -19,24 +14,6 @@ use refusal::Refusal;
 use sealed_store::frames;
 use sealing::wiped::Wiped;
 use store::Store;
-
-// Whether the label is of this cipher and of so many frames.
-fn of_this_card<E: Engine>(label: &Label, count: u64) -> bool
-    ensures { result ≡ (bytes_eq (told label.now).cipher E.Engine.NAME && (told label.now).frames == count) }
-{
-    label.cipher == E::NAME && label.frames as u64 == count
-}
-
-// Whether the pairs have the sizes that the label asks for: a second one in a change alone.
-fn fits(label: &Label, pair: &[u8], second: &[u8]) -> bool
-    ensures { result ≡ (paired (length pair.now) && (told label.now).keybits == 4 * length pair.now && second_fits (told label.now).next pair.now second.now) }
-{
-    card_labels::sized(label, pair)
-        && match label.next {
-            None => second.is_empty(),
-            Some(_) => second.len() == pair.len(),
-        }
-}
 
 impl<E: Engine + Drop, S: Store> Card<E, S> {
     // In a key change it takes both pairs; at rest the second one is empty.
@@ -60,11 +37,9 @@ impl<E: Engine + Drop, S: Store> Card<E, S> {
             return Err(Refusal::WornFrame(0));
         }
         let label = Label::read(&frames::fetch(&self.store, 0)).ok_or(Refusal::NotLabel)?;
-        if !of_this_card::<E>(&label, count) {
+        let same_card = label.cipher == E::NAME && label.frames as u64 == count;
+        if !same_card {
             return Err(Refusal::OtherCard);
-        }
-        if !fits(&label, pair, second) {
-            return Err(Refusal::PairLength);
         }
         self.engines = Engines::of(&label, pair, second)?;
         self.label = Some(label);
