@@ -46,7 +46,7 @@ impl<E: Engine + Drop> Engines<E> {
     }
 
     // Under the pairs whose sizes and check values the label has.
-    pub(crate) fn of(label: &Label, pair: &[u8], second: &[u8]) -> Result<Self, Refusal>
+    pub(crate) fn loaded(label: &Label, pair: &[u8], second: &[u8]) -> Result<Self, Refusal>
         ensures refused { result_err result ≡ first_of (key_checks (kind_of E.Engine) (told label.now) pair.now second.now) }
         ensures old { IfOk result (λ k. keys_in E.Engine k.old ≡ keys_of (kind_of E.Engine) pair.now) }
         ensures new { IfOk result (λ k. keys_in E.Engine k.new ≡ second_keys (kind_of E.Engine) (told label.now).next second.now) }

@@ -41,7 +41,7 @@ impl<E: Engine + Drop, S: Store> Card<E, S> {
         if !same_card {
             return Err(Refusal::OtherCard);
         }
-        self.engines = Engines::of(&label, pair, second)?;
+        self.engines = Engines::loaded(&label, pair, second)?;
         self.label = Some(label);
         Ok(self.state())
     }
