@@ -15,7 +15,7 @@ use Rattle.law.specs.Store.{Store, size}
 use Rattle.law.specs.Calls.{Call, Answer}
 use Rattle.law.specs.Checks.{Check, second_fits, second_checks}
 use Rattle.law.specs.Model as model
-use Rattle.calls.specs.Replies.{ComesTo}
+use Rattle.calls.specs.Outcomes.{ComesTo}
 use Rattle.sealed_store.specs.Told.{kind_of, keys_in, store_in}
 use Rattle.card.specs.declared.card.Card.{Card}
 use Rattle.card.specs.declared.belongs.Kind.{Kind}

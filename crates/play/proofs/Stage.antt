@@ -5,7 +5,7 @@ use Rattle.law.specs.Kind.{Kind, Lawful}
 use Rattle.law.specs.Store.{Store, Sized}
 use Rattle.law.specs.Calls.{Answer, Given, left_by}
 use Rattle.law.specs.Model.{Card, off, act, events, Outcome}
-use Rattle.calls.specs.Replies.{ComesTo}
+use Rattle.calls.specs.Outcomes.{ComesTo}
 use Rattle.calls.specs.Turns.{call_in, answer_in, calls}
 use Rattle.calls.specs.declared.Turn.{Turn}
 use Rattle.law.proofs.Law.{every}
