@@ -1,8 +1,6 @@
 -- What each state and each reply stands for: its number and its values.
-use Rattle.std.specs.Prelude.{◌≡◌, ℕ, List, Ok, Err, Result}
+use Rattle.std.specs.Prelude.{ℕ, List, Ok, Err, Result}
 use Rattle.refusal.specs.declared.Refusal.{Refusal}
-use Rattle.law.specs.Store.{Store}
-use Rattle.law.specs.Model.{Card, Outcome}
 use Rattle.law.specs.Calls.{Answer, refused, made, mounted, ejected, got, kept, started, stepped, told}
 use Rattle.calls.specs.declared.State.{State}
 use Rattle.calls.specs.declared.State.TheVariants.{Unmounted, AtRest, Changing}
@@ -38,9 +36,3 @@ answer_by (Err r) b = refused r
 abbrev pub answer_of : {A : Type 0} → (A → Answer) → Result A Refusal → Answer
 answer_of f (Ok a) = f a
 answer_of f (Err r) = refused r
-
--- a call came to this outcome: it gave this answer, and left this card and this store
-pub record ComesTo (o : Outcome) (a : Answer) (k : Card) (s : Store) : Type 0 where
-  pub answer : a ≡ o.answer
-  pub card : k ≡ o.card
-  pub store : s ≡ o.store

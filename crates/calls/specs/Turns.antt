@@ -1,5 +1,5 @@
 -- Requests as calls, and turns as calls with their answers.
-use Rattle.std.specs.Prelude.{◌≡◌, ℕ, List, [], ◌∷◌, vec_items, Some, Option}
+use Rattle.std.specs.Prelude.{◌≡◌, ℕ, List, [], ◌∷◌, map, vec_items, Some, Option}
 use Rattle.std.specs.Option.{option_map}
 use Rattle.law.specs.Calls.{Call, make, mount, eject, read, write, start, step, status, Answer}
 use Rattle.law.specs.History.{Event}
@@ -37,8 +37,7 @@ abbrev pub answer_in : Turn → Option Answer
 answer_in t = option_map (λ r. answer_by r (buffer_in t.request)) t.reply
 
 abbrev pub calls : List Turn → List Call
-calls [] = []
-calls (t ∷ ts) = call_in t ∷ calls ts
+calls ts = map call_in ts
 
 -- turns as they were given and as they were left are these events, one each
 abbrev pub Seen : List Turn → List Turn → List Event → Type 0

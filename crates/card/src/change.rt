@@ -1,9 +1,7 @@
 // A key change: started, and moved on by one frame at a time.
-ghost use Rattle.std.specs.Prelude.{◌≡◌, length, replicate};
-ghost use Rattle.octets.specs.Octets.{Bytes};
 ghost use Rattle.law.specs.Calls.{start, started, step};
 ghost use Rattle.calls.specs.Replies.{answer_of, stepped_answer};
-ghost use Rattle.card.specs.Cards.{Does};
+ghost use Rattle.card.specs.Cards.{Does, Zeroed};
 
 use crate::belongs::{Kind, belongs};
 use crate::card::Card;
@@ -19,8 +17,7 @@ use store::Store;
 impl<E: Engine + Drop, S: Store> Card<E, S> {
     // How many steps the change will take.
     pub fn start(&mut self, pair: &mut [u8]) -> Result<u64, Refusal>
-        ensures bytes { Bytes pair.old }
-        ensures zeroed { pair.new ≡ replicate (length pair.old) 0 }
+        ensures keys { Zeroed pair.old pair.new }
         ensures done { Does E.Engine S.Store self.old (start pair.old) (answer_of started result) self.new }
     {
         octets(pair);

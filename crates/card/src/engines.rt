@@ -1,5 +1,5 @@
 // The engines of a card.
-ghost use Rattle.std.specs.Prelude.{◌≡◌, true, length, IfOk};
+ghost use Rattle.std.specs.Prelude.{◌≡◌, ◌*◌, ◌&&◌, length, IfOk, ◌==◌};
 ghost use Rattle.std.specs.Result.{result_err};
 ghost use Rattle.sealing.specs.Pair.{paired};
 ghost use Rattle.label.specs.Told.{told};
@@ -23,6 +23,17 @@ pub(crate) struct Engines<E> {
     pub(crate) new: Pair<E>,
 }
 
+// Whether the pairs have the sizes that the label asks for: a second one in a change alone.
+fn fits(label: &Label, pair: &[u8], second: &[u8]) -> bool
+    ensures { result ≡ (paired (length pair.now) && (told label.now).keybits == 4 * length pair.now && second_fits (told label.now).next pair.now second.now) }
+{
+    card_labels::sized(label, pair)
+        && match label.next {
+            None => second.is_empty(),
+            Some(_) => second.len() == pair.len(),
+        }
+}
+
 impl<E: Engine + Drop> Engines<E> {
     pub(crate) fn idle() -> Self
         ensures old { keys_in E.Engine result.old ≡ idle_of (kind_of E.Engine) }
@@ -34,13 +45,15 @@ impl<E: Engine + Drop> Engines<E> {
         }
     }
 
-    // Under the pairs whose check values the label has.
-    pub(crate) fn of(label: &Label, pair: &[u8], second: &[u8]) -> Result<Self, Refusal>
-        requires { (paired (length pair.now) ≡ true) × (second_fits (told label.now).next pair.now second.now ≡ true) }
+    // Under the pairs whose sizes and check values the label has.
+    pub(crate) fn loaded(label: &Label, pair: &[u8], second: &[u8]) -> Result<Self, Refusal>
         ensures refused { result_err result ≡ first_of (key_checks (kind_of E.Engine) (told label.now) pair.now second.now) }
         ensures old { IfOk result (λ k. keys_in E.Engine k.old ≡ keys_of (kind_of E.Engine) pair.now) }
         ensures new { IfOk result (λ k. keys_in E.Engine k.new ≡ second_keys (kind_of E.Engine) (told label.now).next second.now) }
     {
+        if !fits(label, pair, second) {
+            return Err(Refusal::PairLength);
+        }
         let old = keys::loaded::<E>(pair)?;
         if keys::check_value(&old) != label.check {
             return Err(Refusal::OtherKeys);

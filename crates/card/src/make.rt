@@ -1,9 +1,7 @@
 // Making a card new.
-ghost use Rattle.std.specs.Prelude.{◌≡◌, length, replicate};
-ghost use Rattle.octets.specs.Octets.{Bytes};
 ghost use Rattle.law.specs.Calls.{make, made};
 ghost use Rattle.calls.specs.Replies.{answer_of};
-ghost use Rattle.card.specs.Cards.{Does};
+ghost use Rattle.card.specs.Cards.{Does, Zeroed};
 
 use crate::belongs::{Kind, belongs};
 use crate::card::Card;
@@ -18,8 +16,7 @@ use store::Store;
 impl<E: Engine + Drop, S: Store> Card<E, S> {
     // Every data frame that is not worn becomes sealed zero bytes; how many there are.
     pub fn make(&mut self, pair: &mut [u8]) -> Result<u64, Refusal>
-        ensures bytes { Bytes pair.old }
-        ensures zeroed { pair.new ≡ replicate (length pair.old) 0 }
+        ensures keys { Zeroed pair.old pair.new }
         ensures done { Does E.Engine S.Store self.old (make pair.old) (answer_of made result) self.new }
     {
         octets(pair);
@@ -27,9 +24,8 @@ impl<E: Engine + Drop, S: Store> Card<E, S> {
         let pair: &[u8] = wiped.keys;
         belongs(self.state(), Kind::Make)?;
         let old = keys::loaded(pair)?;
-        let label = card_labels::made(pair.len(), self.store.count(), &old).ok_or(
-            Refusal::TooFewFrames,
-        )?;
+        let label = card_labels::made(pair.len(), self.store.count(), &old);
+        let label = label.ok_or(Refusal::TooFewFrames)?;
         if self.store.is_worn(0) {
             return Err(Refusal::WornFrame(0));
         }

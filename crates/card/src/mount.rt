@@ -1,13 +1,7 @@
 // Mounting a card that was made here or elsewhere.
-ghost use Rattle.std.specs.Prelude.{◌≡◌, ◌*◌, ◌&&◌, length, replicate, ◌==◌};
-ghost use Rattle.std.specs.Str.{bytes_eq};
-ghost use Rattle.octets.specs.Octets.{Bytes};
-ghost use Rattle.sealing.specs.Pair.{paired};
-ghost use Rattle.label.specs.Told.{told};
 ghost use Rattle.law.specs.Calls.{mount, mounted};
-ghost use Rattle.law.specs.Checks.{second_fits};
 ghost use Rattle.calls.specs.Replies.{answer_of, state_number};
-ghost use Rattle.card.specs.Cards.{Does};
+ghost use Rattle.card.specs.Cards.{Does, Zeroed};
 
 use crate::belongs::{Kind, belongs};
 use crate::card::Card;
@@ -21,31 +15,11 @@ use sealed_store::frames;
 use sealing::wiped::Wiped;
 use store::Store;
 
-// Whether the label is of this cipher and of so many frames.
-fn of_this_card<E: Engine>(label: &Label, count: u64) -> bool
-    ensures { result ≡ (bytes_eq (told label.now).cipher E.Engine.NAME && (told label.now).frames == count) }
-{
-    label.cipher == E::NAME && label.frames as u64 == count
-}
-
-// Whether the pairs have the sizes that the label asks for: a second one in a change alone.
-fn fits(label: &Label, pair: &[u8], second: &[u8]) -> bool
-    ensures { result ≡ (paired (length pair.now) && (told label.now).keybits == 4 * length pair.now && second_fits (told label.now).next pair.now second.now) }
-{
-    card_labels::sized(label, pair)
-        && match label.next {
-            None => second.is_empty(),
-            Some(_) => second.len() == pair.len(),
-        }
-}
-
 impl<E: Engine + Drop, S: Store> Card<E, S> {
     // In a key change it takes both pairs; at rest the second one is empty.
     pub fn mount(&mut self, pair: &mut [u8], second: &mut [u8]) -> Result<State, Refusal>
-        ensures bytes { Bytes pair.old }
-        ensures second_bytes { Bytes second.old }
-        ensures zeroed { pair.new ≡ replicate (length pair.old) 0 }
-        ensures second_zeroed { second.new ≡ replicate (length second.old) 0 }
+        ensures keys { Zeroed pair.old pair.new }
+        ensures second_keys { Zeroed second.old second.new }
         ensures done { Does E.Engine S.Store self.old (mount pair.old second.old) (answer_of (λ s. mounted (state_number s)) result) self.new }
     {
         octets(pair);
@@ -63,13 +37,11 @@ impl<E: Engine + Drop, S: Store> Card<E, S> {
             return Err(Refusal::WornFrame(0));
         }
         let label = Label::read(&frames::fetch(&self.store, 0)).ok_or(Refusal::NotLabel)?;
-        if !of_this_card::<E>(&label, count) {
+        let same_card = label.cipher == E::NAME && label.frames as u64 == count;
+        if !same_card {
             return Err(Refusal::OtherCard);
         }
-        if !fits(&label, pair, second) {
-            return Err(Refusal::PairLength);
-        }
-        self.engines = Engines::of(&label, pair, second)?;
+        self.engines = Engines::loaded(&label, pair, second)?;
         self.label = Some(label);
         Ok(self.state())
     }

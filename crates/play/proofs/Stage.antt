@@ -1,16 +1,11 @@
 -- How far a list of turns has come, and one turn more.
-use mathlib.Core.Path.{◌≡◌, refl, sym, ap, ap₂, subst, subst₂, ◌∙◌}
-use mathlib.Core.List.{List, [], ◌∷◌}
-use Rattle.std.proofs.Common.{Some}
-use Prim.Native.Nat.{ℕ, zero, suc, ◌+◌, ◌<◌}
-use native.Mathlib.Nat.{not-suc-le-zero, le_of_suc-le-suc}
-use native.Mathlib.Numerals.{add-one}
-use lib.ListN.{length, take, get_or, set}
+use Rattle.std.proofs.Common.{◌≡◌, ℕ, zero, suc, ◌+◌, ◌<◌, List, [], ◌∷◌, Some, length, take, get_or, refl, sym, ap, ap₂, subst, ◌∙◌, add-one, arith}
+use Rattle.std.proofs.Math.ListN.{set}
 use Rattle.law.specs.Kind.{Kind, Lawful}
 use Rattle.law.specs.Store.{Store, Sized}
 use Rattle.law.specs.Calls.{Answer, Given, left_by}
 use Rattle.law.specs.Model.{Card, off, act, events, Outcome}
-use Rattle.calls.specs.Replies.{ComesTo}
+use Rattle.calls.specs.Outcomes.{ComesTo}
 use Rattle.calls.specs.Turns.{call_in, answer_in, calls}
 use Rattle.calls.specs.declared.Turn.{Turn}
 use Rattle.law.proofs.Law.{every}
@@ -29,8 +24,8 @@ pub record Took (M : Kind) (k k' : Card) (s s' : Store) (x t : Turn) (a : Answer
 
 stage_suc : (M : Kind) (k k₁ k₂ : Card) (s s₁ s₂ : Store) (xs ys : List Turn) (i : ℕ) (d t : Turn) (a : Answer) → i < length xs → i < length ys
     → Stage M k k₁ s s₁ xs ys i → Took M k₁ k₂ s₁ s₂ (get_or xs i d) t a → Stage M k k₂ s s₂ xs (set ys i t) (suc i)
-stage_suc M k k₁ k₂ s s₁ s₂ [] ys i d t a p q st h = absurd (not-suc-le-zero p)
-stage_suc M k k₁ k₂ s s₁ s₂ (x ∷ xs) [] i d t a p q st h = absurd (not-suc-le-zero q)
+stage_suc M k k₁ k₂ s s₁ s₂ [] ys i d t a p q st h = absurd (omega arith)
+stage_suc M k k₁ k₂ s s₁ s₂ (x ∷ xs) [] i d t a p q st h = absurd (omega arith)
 stage_suc M k k₁ k₂ s s₁ s₂ (x ∷ xs) (y ∷ ys) zero d t a p q st h =
     let o : act M k s (call_in x) ≡ act M k₁ s₁ (call_in x) = ap₂ (λ a b. act M a b (call_in x)) st.card st.played.stored in
     let e : a ≡ (act M k s (call_in x)).answer = h.came.answer ∙ sym (ap (λ (z : Outcome). z.answer) o) in
@@ -46,7 +41,7 @@ stage_suc M k k₁ k₂ s s₁ s₂ (x ∷ xs) (y ∷ ys) (suc i) d t a p q st h
     let o : Outcome = act M k s (call_in x) in
     let now : Stage M o.card k₁ o.store s₁ xs ys i =
     record { played = record { seen = st.played.seen.3; stored = st.played.stored }; card = st.card; bytes = st.bytes.1 } in
-    let more = stage_suc M o.card k₁ k₂ o.store s₁ s₂ xs ys i d t a (le_of_suc-le-suc p) (le_of_suc-le-suc q) now h in
+    let more = stage_suc M o.card k₁ k₂ o.store s₁ s₂ xs ys i d t a (omega arith) (omega arith) now h in
     let was = st.played.seen in
     record {
       played = record { seen = (was.0, was.1, was.2, more.played.seen); stored = more.played.stored };
@@ -61,7 +56,7 @@ stage_next M k k₁ k₂ s s₁ s₂ xs ys i d t a p q st h =
 
 -- a card that began new
 pub begun-new : (M : Kind) (k k' : Card) (s t s' : Store) (xs ys : List Turn) → k ≡ off M → t ≡ s → Ran M k k' t s' xs ys → Ran M (off M) k' s s' xs ys
-begun-new M k k' s t s' xs ys e f r = subst₂ (λ a b. Ran M a k' b s' xs ys) e f r
+begun-new M k k' s t s' xs ys e f r = subst (λ a. Ran M a k' s s' xs ys) e (subst (λ b. Ran M k k' b s' xs ys) f r)
 
 -- two of them
 pub both-played : (M M' : Kind) → Lawful M → Lawful M' → (k k' : Card) (s s' end end' : Store) → Sized s → Sized s' → (xs ys xs' ys' : List Turn)

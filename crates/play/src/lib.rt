@@ -6,7 +6,8 @@ ghost use Rattle.law.specs.Kind.{Kind, Lawful};
 ghost use Rattle.law.specs.Store.{Store, Sized as SizedStore};
 ghost use Rattle.law.specs.Calls.{Given, left_by};
 ghost use Rattle.law.specs.Model.{Card, off, act};
-ghost use Rattle.calls.specs.Replies.{answer_by, ComesTo};
+ghost use Rattle.calls.specs.Outcomes.{ComesTo};
+ghost use Rattle.calls.specs.Replies.{answer_by};
 ghost use Rattle.calls.specs.Turns.{call_of, buffer_in};
 ghost use Rattle.play.specs.Played.{Ran, BothPlayed};
 

@@ -1,16 +1,19 @@
 // A line for each turn, numbered, and one that counts them.
 use calls::{Reply, Request, Turn};
+use std::alloc::Global;
 use std::fmt;
 
+// For each call whether the hosts gave the same answer.
 #[derive(Drop)]
 pub(crate) struct Report {
-    calls: u64,
-    alike: u64,
+    alike: Vec<bool>,
 }
 
 impl Report {
-    pub(crate) fn new() -> Self {
-        Report { calls: 0, alike: 0 }
+    pub(crate) fn new(heap: Global) -> Self {
+        Report {
+            alike: Vec::new(heap),
+        }
     }
 
     // The answers of the first host, and whether the second gave the same.
@@ -23,16 +26,16 @@ impl Report {
         for (one, other) in first.iter().zip(second) {
             let line = Line(one).to_string(rt.alloc())?;
             let same = line == Line(other).to_string(rt.alloc())?;
-            self.calls = self.calls.saturating_add(1);
-            self.alike = self.alike.saturating_add(u64::from(same));
             let mark = if same { "" } else { " differs" };
-            println!(rt; "{} {line}{mark}", self.calls)?;
+            self.alike.push(same)?;
+            println!(rt; "{} {line}{mark}", self.alike.len())?;
         }
         Ok(())
     }
 
     pub(crate) fn close(&self, rt: &HostRuntime) -> anyhow::Result<()> {
-        println!(rt; "calls={} alike={}", self.calls, self.alike)?;
+        let alike = self.alike.iter().filter(|same| **same).count();
+        println!(rt; "calls={} alike={alike}", self.alike.len())?;
         Ok(())
     }
 }

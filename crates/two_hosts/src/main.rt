@@ -38,7 +38,7 @@ fn played<A: CardCalls + Drop, B: CardCalls + Drop>(
 
 fn run(rt: &HostRuntime) -> anyhow::Result<()> {
     let heap = rt.alloc();
-    let mut report = Report::new();
+    let mut report = Report::new(heap);
     let stores = (blank(heap)?, blank(heap)?);
     let turns = (at_home(heap)?, at_home(heap)?);
     let (one, other): Home = played(rt, &mut report, stores, turns)?;

@@ -1,11 +1,4 @@
-use mathlib.Core.Path.{refl, sym, subst, ◌∙◌}
-use mathlib.Core.List.{List}
-use mathlib.Core.Logic.{◌≢◌}
-use native.Mathlib.Omega.{arith}
-use Prim.Native.Nat.{ℕ, ◌<◌}
-use lib.ListN.{length, get_or}
-use lib.Seq.{get_or-set_other}
-use Rattle.std.proofs.Common.{Some}
+use Rattle.std.proofs.Common.{ℕ, ◌<◌, ◌≢◌, List, Some, length, get_or, refl, sym, subst, ◌∙◌, get_or-set_other, arith}
 use Rattle.law.specs.Calls.{Answer}
 use Rattle.calls.specs.Replies.{answer_by}
 use Rattle.calls.specs.Turns.{buffer_in}
@@ -28,9 +21,12 @@ loop-turn-preserved g c =
     let k' = C.card c.call.new.self in
     let s = C.store c.loop-turn.card in
     let s' = C.store c.call.new.self in
+    let was = c.loop-turn.invariant in
     let took : Took C.kind k k' s s' (get_or ys i x) t a =
-    record { given = c.call.ensures.given; came = c.call.ensures.came; answer = refl; left = c.call.ensures.left } in (
-      stage_next C.kind (C.card c.args.card.now) k k' (C.store c.args.card.now) s s' xs ys i x t a in-xs in-ys c.loop-turn.invariant.0
-          (subst (λ y. Took C.kind k k' s s' y t a) (c.loop-turn.invariant.1 i x (omega arith)) took),
-      λ j d h. let ne : j ≢ i = omega arith in get_or-set_other ys i j t d ne ∙ c.loop-turn.invariant.1 j d (omega arith),
-    )
+    record { given = c.call.ensures.given; came = c.call.ensures.came; answer = refl; left = c.call.ensures.left } in
+    record {
+      played =
+          stage_next C.kind (C.card c.args.card.now) k k' (C.store c.args.card.now) s s' xs ys i x t a in-xs in-ys was.played
+          (subst (λ y. Took C.kind k k' s s' y t a) (was.waiting i x (omega arith)) took);
+      waiting = λ j d h. let ne : j ≢ i = omega arith in get_or-set_other ys i j t d ne ∙ was.waiting j d (omega arith);
+    }
