@@ -1,5 +1,5 @@
 -- What a call from C returns, and what it leaves.
-use Rattle.std.specs.Prelude.{ℕ, ◌/◌, Bool, true, false, ◌&&◌, List, length, Ok, Err, Result, ◌==◌}
+use Rattle.std.specs.Prelude.{◌≡◌, ℕ, ◌/◌, Bool, true, false, ◌&&◌, List, length, replicate, Ok, Err, Result, ◌==◌}
 use Rattle.refusal.specs.declared.Refusal.{Refusal}
 use Rattle.refusal.specs.Code.{code}
 use Rattle.sealing.specs.Pair.{paired, data_key, tweak_key}
@@ -40,3 +40,9 @@ under over cipher inverse keys frame f =
 -- a pair of this size whose halves the engine takes
 abbrev pub accepted : (ℕ → Bool) → ℕ → Bool
 accepted takes n = paired n && takes (n / 2)
+
+-- a call with a pair and a frame, over the map that its way makes of them: what it returns, and what it leaves of the bytes that it was lent
+pub record Served (takes : ℕ → Bool) (over : List ℕ → ℕ → List ℕ → List ℕ) (pair : List ℕ) (frame : ℕ) (bytes : List ℕ) (number : ℕ) (pair' bytes' : List ℕ) : Type 0 where
+  pub answer : number ≡ returned (accepted takes (length pair)) (framed bytes)
+  pub zeroed : pair' ≡ replicate (length pair) 0
+  pub stored : bytes' ≡ left (accepted takes (length pair) && framed bytes) (over pair frame bytes) bytes

@@ -1,6 +1,6 @@
 // One frame under a lent pair, for any engine; the pair's bytes are zero afterwards on every way out.
-ghost use Rattle.std.specs.Prelude.{◌≡◌, ℕ, ◌&&◌, length, replicate};
-ghost use Rattle.hosts.specs.Calls.{returned, number_of, framed, left, accepted, under};
+ghost use Rattle.std.specs.Prelude.{◌≡◌};
+ghost use Rattle.hosts.specs.Calls.{Served, number_of, under};
 
 use crate::way::Way;
 use engine::Engine;
@@ -13,17 +13,12 @@ pub(crate) fn call<E: Engine + Drop, W: Way>(
     frame: u64,
     bytes: &mut [u8],
 ) -> Result<(), Refusal>
-    ensures answer { number_of result ≡ returned (accepted E.Engine.takes (length pair.old)) (framed bytes.old) }
-    ensures zeroed { pair.new ≡ replicate (length pair.old) 0 }
-    ensures stored { bytes.new ≡ left (accepted E.Engine.takes (length pair.old) && framed bytes.old)
-        (under W.over E.Engine.cipher E.Engine.inverse pair.old frame bytes.old) bytes.old }
+    ensures { Served E.Engine.takes (under W.over E.Engine.cipher E.Engine.inverse) pair.old frame bytes.old (number_of result) pair.new bytes.new }
 {
     let lent = Wiped { keys: pair };
     let mut keys = Pair::<E>::new();
     keys.load(lent.keys)?;
-    let Some(bytes) = bytes.as_mut_array() else {
-        return Err(Refusal::BufferLength(frame));
-    };
+    let bytes = bytes.as_mut_array().ok_or(Refusal::BufferLength(frame))?;
     W::go(&keys, frame, bytes);
     Ok(())
 }
