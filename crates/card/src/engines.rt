@@ -23,7 +23,8 @@ pub(crate) struct Engines<E> {
     pub(crate) new: Pair<E>,
 }
 
-// Whether the pairs have the sizes that the label asks for: a second one in a change alone.
+// Whether the pairs have the sizes that the label asks for: a second one in a change alone. The label is read off the store
+// and the pairs are lent, so no struct has both.
 fn fits(label: &Label, pair: &[u8], second: &[u8]) -> bool
     ensures { result ≡ (paired (length pair.now) && (told label.now).keybits == 4 * length pair.now && second_fits (told label.now).next pair.now second.now) }
 {

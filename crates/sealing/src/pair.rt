@@ -51,6 +51,7 @@ impl<E: Engine> Pair<E> {
         self.tweak.load(tweak)
     }
 
+    // Both ways are one walk, which is given the cipher or its inverse. A frame comes beside its number, which stands nowhere in it.
     pub fn seal(&self, frame: u64, bytes: &mut [u8; 128])
         ensures { bytes.new ≡ xts (E.enciphers self.now.cipher) (E.enciphers self.now.tweak) frame bytes.old }
     {

@@ -42,6 +42,7 @@ pub trait Store: Sized {
         Ok(())
     }
 
+    // A frame's number and a buffer come apart, here as in a card: the number stands nowhere in the frame.
     fn read(&self, n: u64, buffer: &mut [u8]) -> Result<(), Refusal>
         ensures answer { result ≡ call_answer (length buffer.old) (length (frames self.now)) (worn self.now n) n }
         ensures buffer { buffer.new ≡ left result (slice_index_or (frames self.now) n []) buffer.old };
