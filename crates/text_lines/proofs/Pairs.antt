@@ -1,10 +1,10 @@
 -- Digits taken two by two, and the bytes that they write.
-use Rattle.std.proofs.Common.{◌≡◌, ℕ, zero, suc, ◌+◌, ◌*◌, ◌<◌, ◌≤◌, List, [], ◌∷◌, ◌++◌, map, length, get_or, take, drop, set, sym, refl, ap, ◌∙◌, arith}
+use Rattle.std.proofs.Common.{◌≡◌, ℕ, zero, suc, ◌*◌, ◌<◌, ◌≤◌, List, [], ◌∷◌, map, length, get_or, take, drop, sym, refl, ap, ◌∙◌, arith}
 use Rattle.std.specs.List.{flat_map, AllByRecursion}
 use Rattle.std.specs.Simd.{first_chunks}
-use Rattle.std.proofs.lemmas.List.{get_or-map, length-set, map-append, take_all, take_more, take_more_set}
+use Rattle.std.proofs.lemmas.List.{get_or-map, take_all}
 use Rattle.std.proofs.lemmas.List.Folds.{flat_map-map}
-use Rattle.std.proofs.ByRecursion.{All-get_or, All-push}
+use Rattle.std.proofs.ByRecursion.{All-get_or}
 use Rattle.text_lines.specs.Hex.{pair, hex, PairOf, HexOf}
 
 -- the pairs of the digits that bytes are written with
@@ -30,18 +30,6 @@ pub record Read (pairs : List (List ℕ)) (bytes : List ℕ) (i count : ℕ) : T
   pub counted : length bytes ≡ count
   pub small : AllByRecursion (λ b. b < 256) (take i bytes)
   pub reads : take i pairs ≡ map pair (take i bytes)
-
-pub read_more : (pairs : List (List ℕ)) (bytes p : List ℕ) (i count b : ℕ) → Read pairs bytes i count → i < count → i < length pairs
-    → PairOf (get_or pairs i p) b → Read pairs (set bytes i b) (i + 1) count
-read_more pairs bytes p i count b r l m h =
-    let front = take_more_set bytes i b (omega (arith, r.counted)) in
-    record {
-      counted = length-set bytes i b ∙ r.counted;
-      small = rw front (All-push (λ x. x < 256) (take i bytes) b r.small h.small);
-      reads =
-          take_more pairs i p m ∙ (λ k. r.reads k ++ h.reads k ∷ [])
-          ∙ sym (ap (map pair) front ∙ map-append pair (take i bytes) (b ∷ []));
-    }
 
 -- where the digits are those of bytes, each pair is that of its byte
 pub is-pair : {digits bytes : List ℕ} {pairs : List (List ℕ)} {count k i : ℕ} (p : List ℕ) → HexOf digits count bytes → i < count
