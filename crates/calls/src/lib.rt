@@ -32,7 +32,7 @@ pub struct Stepped {
     pub over: bool,
 }
 
-// What a card tells of itself; an unmounted one tells zeros.
+// What a card tells of itself: three numbers in every state, and zeros while it is unmounted, as the law says.
 #[derive(Clone, Copy, PartialEq, Eq, Debug)]
 pub struct Status {
     pub state: State,

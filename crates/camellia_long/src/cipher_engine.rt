@@ -56,8 +56,6 @@ impl Engine for LongCamellia {
 
     ghost lettered = { Prim.search rules };
 
-    ghost listed = { Prim.search rules };
-
     ghost sixteen = { Prim.search rules };
 
     ghost undone = { (Whole.undone).forth };
@@ -67,6 +65,10 @@ impl Engine for LongCamellia {
     ghost enciphered_blocks = { sized.enciphers };
 
     ghost deciphered_blocks = { sized.deciphers };
+
+    fn accepts(len: usize) -> bool {
+        Self::KEY_LENGTHS.contains(&len)
+    }
 
     fn new() -> Self {
         LongCamellia { keys: zero_keys() }

@@ -38,8 +38,6 @@ impl<H: Half> Engine for Camellia<H> {
 
     ghost lettered = { Prim.search rules };
 
-    ghost listed = { Prim.search rules };
-
     ghost sixteen = { Prim.search rules };
 
     ghost undone = { (Whole.undone).forth };
@@ -49,6 +47,10 @@ impl<H: Half> Engine for Camellia<H> {
     ghost enciphered_blocks = { sized.enciphers };
 
     ghost deciphered_blocks = { sized.deciphers };
+
+    fn accepts(len: usize) -> bool {
+        Self::KEY_LENGTHS.contains(&len)
+    }
 
     fn new() -> Self {
         Camellia {

@@ -24,7 +24,7 @@ impl<E: Engine + Drop, S: Store> Card<E, S> {
         let wiped = Wiped { keys: pair };
         let pair: &[u8] = wiped.keys;
         belongs(self.state(), Kind::Start)?;
-        let label = self.label.ok_or(Refusal::WrongState)?;
+        let label = self.label.unwrap();
         if !card_labels::sized(&label, pair) {
             return Err(Refusal::PairLength);
         }
@@ -40,8 +40,8 @@ impl<E: Engine + Drop, S: Store> Card<E, S> {
         ensures { Does E.Engine S.Store self.old step (answer_of stepped_answer result) self.new }
     {
         belongs(self.state(), Kind::Step)?;
-        let label = self.label.ok_or(Refusal::WrongState)?;
-        let stepped = card_labels::stepped(&label).ok_or(Refusal::WrongState)?;
+        let label = self.label.unwrap();
+        let stepped = card_labels::stepped(&label).unwrap();
         let frame = label.moved as u64 + 1;
         let passed_over = self.store.is_worn(frame);
         frames::reseal(&self.engines.old, &self.engines.new, &mut self.store, frame);

@@ -28,13 +28,7 @@ fn check<S: Store>(store: &S, n: u64, len: usize) -> Result<(), Refusal>
     if n == 0 {
         return Err(Refusal::LabelFrame);
     }
-    if n >= store.count() {
-        return Err(Refusal::FrameNumber(n));
-    }
-    if store.is_worn(n) {
-        return Err(Refusal::WornFrame(n));
-    }
-    Ok(())
+    store.check(n, len)
 }
 
 impl<E: Engine + Drop, S: Store> Card<E, S> {

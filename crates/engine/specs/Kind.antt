@@ -1,6 +1,5 @@
 -- What is asked of a kind of engine.
-use Rattle.std.specs.Prelude.{◌≡◌, ℕ, ◌<◌, ◌≤◌, Bool, true, false, List, length, Ok, Err, Result, slice_index, ◌==◌}
-use Rattle.std.specs.List.{list_any}
+use Rattle.std.specs.Prelude.{◌≡◌, ℕ, ◌<◌, ◌≤◌, Bool, true, false, List, length, Ok, Err, Result, slice_index}
 use Rattle.refusal.specs.declared.Refusal.{Refusal}
 use Rattle.refusal.specs.declared.Refusal.TheVariants.{KeyLength}
 use Rattle.octets.specs.Octets.{Bytes, Block}
@@ -9,10 +8,6 @@ use Rattle.octets.specs.Octets.{Bytes, Block}
 pub record EightLetters (name : List ℕ) : Type 0 where
   pub eight : length name ≡ 8
   pub letters : (i : ℕ) → i < 8 → (97 ≤ slice_index name i) × (slice_index name i ≤ 122)
-
--- a length is taken where it is one of those listed
-abbrev pub Listed : (ℕ → Bool) → List ℕ → Type 0
-Listed takes lengths = (n : ℕ) → takes n ≡ list_any (λ m. m == n) lengths
 
 pub record Key (takes : ℕ → Bool) (key : List ℕ) : Type 0 where
   pub taken : takes (length key) ≡ true

@@ -2,7 +2,7 @@
 #![tactic(auto)]
 
 ghost use Rattle.std.specs.Prelude.{◌≡◌, ℕ, Bool, true, false, List, map, length, replicate};
-ghost use Rattle.engine.specs.Kind.{EightLetters, Listed, Undoes, Blocks, load_answer};
+ghost use Rattle.engine.specs.Kind.{EightLetters, Undoes, Blocks, load_answer};
 
 use refusal::Refusal;
 
@@ -29,11 +29,9 @@ pub trait Engine: Sized {
 
     ghost deciphers: { Self → List ℕ → List ℕ };
 
+    // Each kind says it: a law that ties it to the three lengths would shut out kinds that take more.
     fn accepts(len: usize) -> bool
-        ensures { result ≡ takes len }
-    {
-        Self::KEY_LENGTHS.contains(&len)
-    }
+        ensures { result ≡ takes len };
 
     // A new engine holds sixteen zero bytes.
     fn new() -> Self
@@ -71,8 +69,6 @@ pub trait Engine: Sized {
     }
 
     ghost lettered: { EightLetters NAME };
-
-    ghost listed: { Listed takes KEY_LENGTHS };
 
     ghost sixteen: { takes 16 ≡ true };
 

@@ -41,8 +41,8 @@ under over cipher inverse keys frame f =
 abbrev pub accepted : (ℕ → Bool) → ℕ → Bool
 accepted takes n = paired n && takes (n / 2)
 
--- a call with a pair and a frame, over the map that its way makes of them: what it returns, and what it leaves of the bytes that it was lent
-pub record Served (takes : ℕ → Bool) (over : List ℕ → ℕ → List ℕ → List ℕ) (pair : List ℕ) (frame : ℕ) (bytes : List ℕ) (number : ℕ) (pair' bytes' : List ℕ) : Type 0 where
+-- a call with a pair and a frame, which `moved` takes to another frame: what it returns, and what it leaves of the bytes that it was lent
+pub record Served (takes : ℕ → Bool) (moved : List ℕ → ℕ → List ℕ → List ℕ) (pair : List ℕ) (frame : ℕ) (bytes : List ℕ) (number : ℕ) (pair' bytes' : List ℕ) : Type 0 where
   pub answer : number ≡ returned (accepted takes (length pair)) (framed bytes)
   pub zeroed : pair' ≡ replicate (length pair) 0
-  pub stored : bytes' ≡ left (accepted takes (length pair) && framed bytes) (over pair frame bytes) bytes
+  pub stored : bytes' ≡ left (accepted takes (length pair) && framed bytes) (moved pair frame bytes) bytes

@@ -1,4 +1,5 @@
-// The two ways of a frame under a pair of keys: it is sealed, or it is opened.
+// The two ways of a frame under a pair of keys: it is sealed, or it is opened. Each is a type and not a closure, since the
+// contract of a call names its map.
 ghost use Rattle.std.specs.Prelude.{◌≡◌, ℕ, List};
 ghost use Rattle.sealing.specs.Xts.{xts};
 ghost use Rattle.hosts.specs.Calls.{seals, opens};

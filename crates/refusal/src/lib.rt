@@ -50,60 +50,58 @@ impl Layer {
     }
 }
 
-// Tables of cases: a case with a frame can't have its number at the enum, and the layer and the frame are its other two values.
+// The values of a case.
+#[derive(Clone, Copy)]
+struct Values {
+    number: u8,
+    layer: Layer,
+    frame: u64,
+}
+
 impl Refusal {
+    // A table, since a case with a frame can't have its number at the enum.
+    fn values(self) -> Values
+        ensures number { result.number ≡ (code self).number }
+        ensures layer { result.layer ≡ (code self).layer }
+        ensures frame { result.frame ≡ (code self).frame }
+    {
+        let (number, layer, frame) = match self {
+            Refusal::WrongState => (1, Layer::Card, 0),
+            Refusal::PairLength => (2, Layer::Card, 0),
+            Refusal::KeyLength => (2, Layer::Cipher, 0),
+            Refusal::CardBufferLength(n) => (3, Layer::Card, n),
+            Refusal::BufferLength(n) => (3, Layer::Store, n),
+            Refusal::TooFewFrames => (4, Layer::Card, 1),
+            Refusal::LabelFrame => (4, Layer::Card, 0),
+            Refusal::FrameNumber(n) => (4, Layer::Store, n),
+            Refusal::WornFrame(n) => (5, Layer::Store, n),
+            Refusal::NotLabel => (6, Layer::Card, 0),
+            Refusal::OtherCard => (7, Layer::Card, 0),
+            Refusal::OtherKeys => (8, Layer::Card, 0),
+            Refusal::TooManyWorn(n) => (9, Layer::Store, n),
+        };
+        Values {
+            number,
+            layer,
+            frame,
+        }
+    }
+
     pub fn number(self) -> u8
         ensures { result ≡ (code self).number }
     {
-        match self {
-            Refusal::WrongState => 1,
-            Refusal::PairLength | Refusal::KeyLength => 2,
-            Refusal::CardBufferLength(_) | Refusal::BufferLength(_) => 3,
-            Refusal::TooFewFrames | Refusal::LabelFrame | Refusal::FrameNumber(_) => 4,
-            Refusal::WornFrame(_) => 5,
-            Refusal::NotLabel => 6,
-            Refusal::OtherCard => 7,
-            Refusal::OtherKeys => 8,
-            Refusal::TooManyWorn(_) => 9,
-        }
+        self.values().number
     }
 
     pub fn layer(self) -> Layer
         ensures { result ≡ (code self).layer }
     {
-        match self {
-            Refusal::PairLength => Layer::Card,
-            Refusal::WrongState
-            | Refusal::CardBufferLength(_)
-            | Refusal::TooFewFrames
-            | Refusal::LabelFrame
-            | Refusal::NotLabel
-            | Refusal::OtherCard
-            | Refusal::OtherKeys => Layer::Card,
-            Refusal::KeyLength => Layer::Cipher,
-            Refusal::BufferLength(_)
-            | Refusal::FrameNumber(_)
-            | Refusal::WornFrame(_)
-            | Refusal::TooManyWorn(_) => Layer::Store,
-        }
+        self.values().layer
     }
 
     pub fn frame(self) -> u64
         ensures { result ≡ (code self).frame }
     {
-        match self {
-            Refusal::PairLength | Refusal::KeyLength => 0,
-            Refusal::WrongState
-            | Refusal::LabelFrame
-            | Refusal::NotLabel
-            | Refusal::OtherCard
-            | Refusal::OtherKeys => 0,
-            Refusal::TooFewFrames => 1,
-            Refusal::CardBufferLength(n)
-            | Refusal::BufferLength(n)
-            | Refusal::FrameNumber(n)
-            | Refusal::WornFrame(n)
-            | Refusal::TooManyWorn(n) => n,
-        }
+        self.values().frame
     }
 }

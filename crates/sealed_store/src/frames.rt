@@ -18,7 +18,7 @@ pub fn put<S: Store>(store: &mut S, n: u64, bytes: &[u8; 128])
     let _ = store.write(n, bytes);
 }
 
-// The bytes of a frame that can be read.
+// The bytes of a frame that can be read. No Result: its callers have looked, and of another frame it says nothing.
 pub fn fetch<S: Store>(store: &S, n: u64) -> [u8; 128]
     ensures { S.Store.worn store.now n ≡ false → n < length (S.Store.frames store.now)
         → result ≡ slice_index_or (S.Store.frames store.now) n [] }

@@ -30,6 +30,7 @@ fn double(tweak: u128) -> u128
     tweak << 1 ^ carry
 }
 
+// By the places that `enumerate` gives: after a `zip` over `iter_mut` nothing is known of the block, here and in `mask`.
 #[tactic(auto, using(crate::proofs::Sixteen::xored_more))]
 fn add(mut block: [u8; 16], tweak: [u8; 16]) -> [u8; 16]
     ensures { result ≡ added block tweak }

@@ -36,7 +36,8 @@ pub fn read_bytes<const N: usize>(digits: &[u8]) -> Option<[u8; N]>
     if pairs.len() != N {
         return None;
     }
-    // `try_from_fn` asks that N elements fit in memory, which no proof can show of a parameter.
+    // `try_from_fn` asks that N elements fit in memory, which no proof can show of a parameter; and after a `zip` over `iter_mut`
+    // nothing is known of the bytes.
     let mut bytes = [0; N];
     for (i, pair) in pairs.iter().enumerate() {
         bytes[i] = read_pair(*pair)?;

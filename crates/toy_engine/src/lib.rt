@@ -31,8 +31,6 @@ impl Engine for Identity {
 
     ghost lettered = { Prim.search rules };
 
-    ghost listed = { Prim.search rules };
-
     ghost sixteen = { Prim.search rules };
 
     ghost undone = { Prim.search rules };
@@ -42,6 +40,10 @@ impl Engine for Identity {
     ghost enciphered_blocks = { Prim.search rules };
 
     ghost deciphered_blocks = { Prim.search rules };
+
+    fn accepts(len: usize) -> bool {
+        Self::KEY_LENGTHS.contains(&len)
+    }
 
     fn new() -> Self {
         Identity

@@ -5,7 +5,7 @@ ghost use Rattle.vector_groups.specs.Text.{KeyOf, GroupOf};
 use crate::group::{Group, Key};
 use text_lines::hex::read_hex_line;
 
-// The line of a key of any of the three lengths.
+// The line of a key of any of the three lengths. All three are tried: with `or_else` it stays open that the closure reads the same text.
 fn read_key(input: &[u8]) -> Option<(Key, &[u8])>
     ensures { MatchOption result
         ((key : Key) (rest : List ℕ) → KeyOf input.now key rest → ⊥)
