@@ -20,17 +20,17 @@ stepped_answer r = stepped r.frame r.passed_over r.over
 abbrev pub status_answer : Status → Answer
 status_answer r = told (state_number r.state) r.frames r.moved
 
--- a reply, with the bytes that a read left in its buffer
-abbrev pub answer_by : Reply → List ℕ → Answer
-answer_by (reply.Refused r) b = refused r
-answer_by (reply.Made n) b = made n
-answer_by (reply.Mounted s) b = mounted (state_number s)
-answer_by reply.Ejected b = ejected
-answer_by reply.Read b = got b
-answer_by reply.Written b = kept
-answer_by (reply.Started n) b = started n
-answer_by (reply.Stepped r) b = stepped_answer r
-answer_by (reply.Told r) b = status_answer r
+-- a reply or a refusal, with the bytes that a read left in its buffer
+abbrev pub answer_by : Result Reply Refusal → List ℕ → Answer
+answer_by (Ok (reply.Made n)) b = made n
+answer_by (Ok (reply.Mounted s)) b = mounted (state_number s)
+answer_by (Ok reply.Ejected) b = ejected
+answer_by (Ok reply.Read) b = got b
+answer_by (Ok reply.Written) b = kept
+answer_by (Ok (reply.Started n)) b = started n
+answer_by (Ok (reply.Stepped r)) b = stepped_answer r
+answer_by (Ok (reply.Told r)) b = status_answer r
+answer_by (Err r) b = refused r
 
 -- the answer of one call of a card
 abbrev pub answer_of : {A : Type 0} → (A → Answer) → Result A Refusal → Answer

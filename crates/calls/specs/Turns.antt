@@ -1,5 +1,6 @@
 -- Requests as calls, and turns as calls with their answers.
-use Rattle.std.specs.Prelude.{◌≡◌, ℕ, List, [], ◌∷◌, vec_items}
+use Rattle.std.specs.Prelude.{◌≡◌, ℕ, List, [], ◌∷◌, map, vec_items, Some, Option}
+use Rattle.std.specs.Option.{option_map}
 use Rattle.law.specs.Calls.{Call, make, mount, eject, read, write, start, step, status, Answer}
 use Rattle.law.specs.History.{Event}
 use Rattle.calls.specs.Replies.{answer_by}
@@ -31,12 +32,12 @@ buffer_in request.Status = []
 abbrev pub call_in : Turn → Call
 call_in t = call_of t.request
 
-abbrev pub answer_in : Turn → Answer
-answer_in t = answer_by t.reply (buffer_in t.request)
+-- none before a card has taken the turn
+abbrev pub answer_in : Turn → Option Answer
+answer_in t = option_map (λ r. answer_by r (buffer_in t.request)) t.reply
 
 abbrev pub calls : List Turn → List Call
-calls [] = []
-calls (t ∷ ts) = call_in t ∷ calls ts
+calls ts = map call_in ts
 
 -- turns as they were given and as they were left are these events, one each
 abbrev pub Seen : List Turn → List Turn → List Event → Type 0
@@ -45,4 +46,4 @@ Seen [] [] (e ∷ es) = ⊥
 Seen [] (y ∷ ys) es = ⊥
 Seen (x ∷ xs) [] es = ⊥
 Seen (x ∷ xs) (y ∷ ys) [] = ⊥
-Seen (x ∷ xs) (y ∷ ys) (e ∷ es) = (e.call ≡ call_in x) × (e.answer ≡ answer_in y) × (e.left ≡ call_in y) × Seen xs ys es
+Seen (x ∷ xs) (y ∷ ys) (e ∷ es) = (e.call ≡ call_in x) × (answer_in y ≡ Some e.answer) × (e.left ≡ call_in y) × Seen xs ys es

@@ -8,25 +8,22 @@ use refusal::Refusal;
 
 #[derive(Clone, Copy, PartialEq, Eq, Debug)]
 pub enum State {
-    Unmounted,
-    AtRest,
+    Unmounted = 0,
+    AtRest = 1,
     // a key change is under way
-    Changing,
+    Changing = 2,
 }
 
 impl State {
     pub fn number(self) -> u8
         ensures { result ≡ state_number self }
     {
-        match self {
-            State::Unmounted => 0,
-            State::AtRest => 1,
-            State::Changing => 2,
-        }
+        self as u8
     }
 }
 
 // The frame that a step moved, or passed over since it is worn.
+// Two flags, and no value beside them: a frame may be passed over, or not, in the last step and in any other.
 #[derive(Clone, Copy, PartialEq, Eq, Debug)]
 pub struct Stepped {
     pub frame: u64,
@@ -56,10 +53,9 @@ pub enum Request {
     Status,
 }
 
-// What an accepted read gives is left in the buffer that came with it.
+// What an accepted call answers. What a read gives is left in the buffer that came with it.
 #[derive(Clone, Copy, PartialEq, Eq, Debug)]
 pub enum Reply {
-    Refused(Refusal),
     // how many frames were sealed
     Made(u64),
     Mounted(State),
@@ -72,9 +68,9 @@ pub enum Reply {
     Told(Status),
 }
 
-// A request, and room for the reply.
+// A request, and once a card has taken it the reply or the refusal.
 #[derive(Drop)]
 pub struct Turn {
     pub request: Request,
-    pub reply: Reply,
+    pub reply: Option<Result<Reply, Refusal>>,
 }

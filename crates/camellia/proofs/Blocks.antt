@@ -1,5 +1,5 @@
 -- Blocks of sixteen bytes and their two halves.
-use Rattle.std.proofs.Common.{◌≡◌, ℕ, zero, suc, ◌+◌, ◌/◌, ◌%◌, ◌^◌, ◌<◌, List, [], ◌∷◌, ◌++◌, map, reverse, get_or, sym, refl, ap, ◌∙◌, ap₂, arith}
+use Rattle.std.proofs.Common.{◌≡◌, ℕ, zero, suc, ◌+◌, ◌/◌, ◌%◌, ◌^◌, ◌<◌, List, [], ◌∷◌, ◌++◌, map, get_or, sym, refl, ◌∙◌, ap₂, arith}
 use Rattle.std.proofs.lemmas.Slice.Eq.{text_from_reads}
 use Rattle.octets.specs.Octets.{Bytes, Block}
 use Rattle.camellia.specs.Numbers.{join8, half_at, bytes8}
@@ -61,22 +61,3 @@ pub to_bytes_block : (s : State) → Block (to_bytes s)
 unfolding to_bytes
 to_bytes_block s =
     record { sixteen = refl; bytes = bytes8-bytes s.left (bytes8 s.right) (bytes8-bytes s.right [] (λ i. omega arith)) }
-
--- eight bytes, the least significant first
-abbrev pub le8 : ℕ → List ℕ
-le8 x =
-    (x % 256) ∷ (x / 2 ^ 8 % 256) ∷ (x / 2 ^ 16 % 256) ∷ (x / 2 ^ 24 % 256)
-    ∷ (x / 2 ^ 32 % 256) ∷ (x / 2 ^ 40 % 256) ∷ (x / 2 ^ 48 % 256) ∷ (x / 2 ^ 56 % 256) ∷ []
-
-le8_join : (a b c d e f g h : ℕ) → a < 256 → b < 256 → c < 256 → d < 256 → e < 256 → f < 256 → g < 256 → h < 256
-    → le8 (join8 a b c d e f g h) ≡ h ∷ g ∷ f ∷ e ∷ d ∷ c ∷ b ∷ a ∷ []
-le8_join a b c d e f g h ha hb hc hd he hf hg hh =
-    ap reverse (bytes8_join a b c d e f g h ha hb hc hd he hf hg hh)
-
--- the bytes of a number whose bytes changed places
-pub bytes-swapped : (x : ℕ)
-    → le8 (join8 (x % 256) (x / 2 ^ 8 % 256) (x / 2 ^ 16 % 256) (x / 2 ^ 24 % 256) (x / 2 ^ 32 % 256) (x / 2 ^ 40 % 256) (x / 2 ^ 48 % 256) (x / 2 ^ 56 % 256))
-    ≡ bytes8 x
-bytes-swapped x =
-    le8_join (x % 256) (x / 2 ^ 8 % 256) (x / 2 ^ 16 % 256) (x / 2 ^ 24 % 256) (x / 2 ^ 32 % 256) (x / 2 ^ 40 % 256) (x / 2 ^ 48 % 256) (x / 2 ^ 56 % 256)
-    (omega arith) (omega arith) (omega arith) (omega arith) (omega arith) (omega arith) (omega arith) (omega arith)

@@ -6,4 +6,3 @@ pub mod Blocks
 pub mod Whole
 pub mod Schedules
 pub mod Bytes
-pub mod Parts

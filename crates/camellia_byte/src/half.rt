@@ -5,8 +5,9 @@ ghost use Rattle.camellia.specs.Numbers.{half_at};
 ghost use Rattle.camellia.specs.Functions.{PS};
 ghost use Rattle.camellia_byte.specs.Mixed.{mixed};
 
-use crate::sbox::{s1, s2, s3, s4};
+use crate::sbox::{s2, s3, s4};
 use camellia_rounds::half::Half;
+use camellia_rounds::sbox::s1;
 
 #[derive(Clone, Copy)]
 pub struct ByteHalf {

@@ -16,6 +16,7 @@ use engine::Engine;
 use refusal::Refusal;
 use std::array;
 
+// A function for each way: with the way as a closure each of the four calls below would have to prove what these two prove.
 impl LongCamellia {
     fn encipher_blocks<const N: usize>(&self, blocks: &mut [[u8; 16]; N])
         ensures { blocks.new ≡ map (enciphers_of self.now) blocks.old }

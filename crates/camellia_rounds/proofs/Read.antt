@@ -1,5 +1,5 @@
 -- A key by its words of eight bytes.
-use Rattle.std.proofs.Common.{◌≡◌, ℕ, zero, suc, ◌+◌, ◌*◌, ◌/◌, ◌<◌, cond, eqb, List, [], length, drop, take, get_or, sym, ap, ◌∙◌, arith}
+use Rattle.std.proofs.Common.{◌≡◌, ℕ, zero, suc, ◌+◌, ◌*◌, ◌/◌, ◌<◌, cond, eqb, List, [], length, drop, take, get_or, sym, ap, ◌∙◌, ap₂, arith}
 use Rattle.std.proofs.lemmas.List.{get_or-drop, get_or-take}
 use Rattle.std.specs.Simd.{first_chunks}
 use Rattle.camellia.specs.Numbers.{half_at, join8}
@@ -31,6 +31,10 @@ chunk (suc n) (suc k) xs h = chunk n k (drop 8 xs) (omega arith) ∙ half-droppe
 pub word : (words : List (List ℕ)) (key : List ℕ) (k : ℕ) → words ≡ first_chunks 8 (length key / 8) key → k < length key / 8
     → half_at (get_or words k []) 0 ≡ half_at key (k * 8)
 word words key k e h = ap (λ ws. half_at (get_or ws k []) 0) e ∙ chunk (length key / 8) k key h
+
+pub pair : (words : List (List ℕ)) (key : List ℕ) (k : ℕ) → words ≡ first_chunks 8 (length key / 8) key → k + 1 < length key / 8
+    → joined (half_at (get_or words k []) 0) (half_at (get_or words (k + 1) []) 0) ≡ joined (half_at key (k * 8)) (half_at key ((k + 1) * 8))
+pair words key k e h = ap₂ joined (word words key k e (omega arith)) (word words key (k + 1) e h)
 
 abbrev by_length : List ℕ → ℕ → Sources
 by_length key n =

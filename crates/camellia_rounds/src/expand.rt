@@ -35,7 +35,7 @@ impl Schedule {
     {
         let m = sources.material::<H>();
         let plan = Plan::of(sources);
-        // A loop: an array's `map` takes four times as long, since the elements wait in an iterator first.
+        // A loop: with an array's `map`, whose elements wait in an iterator first, frames took 1.6 to 2 times as long.
         let mut layers = [Layer::Round(0); 27];
         for (i, slots) in plan.layers.iter().enumerate() {
             layers[i] = layer(&m, *slots);

@@ -8,6 +8,7 @@ mod expand;
 pub mod half;
 pub mod parts;
 mod rounds;
+pub mod sbox;
 mod schedule;
 pub mod sources;
 pub mod subkey;

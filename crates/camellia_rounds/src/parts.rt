@@ -50,6 +50,7 @@ impl Parts {
     }
 }
 
+// On numbers: a half, and a key that callers hold apart from it.
 pub fn fl(x: u64, k: u64) -> u64
     ensures { result ≡ FL x k }
 {

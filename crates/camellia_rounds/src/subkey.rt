@@ -5,6 +5,7 @@ ghost use Rattle.camellia.specs.Keys.{from, subkey as subkey_of};
 use crate::bytes::{left, right};
 use camellia::plan::{Material, Slot, Source};
 
+// A match and no `Index`: the four are fields by the standard's names, and a caller would have to name the match anyway.
 fn source(m: &Material, source: Source) -> u128
     ensures { result ≡ from m.now source }
 {

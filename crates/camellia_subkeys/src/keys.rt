@@ -14,7 +14,8 @@ pub struct Group<K> {
     pub rounds: [K; 6],
 }
 
-// Six rounds, and then two or three groups: 18 or 24 rounds.
+// Six rounds, and then two or three groups: 18 or 24 rounds. The second and the third are no array: the derived `Clone` of an
+// array of a parameter's groups is not proved.
 #[derive(Clone, Copy)]
 pub struct Groups<K> {
     pub first: [K; 6],

@@ -18,6 +18,7 @@ pub enum Kind {
     Step,
 }
 
+// The rule of the project: a match on the card's own state and the call together decides refusal 1, for every call here.
 pub fn belongs(state: State, call: Kind) -> Result<(), Refusal>
     ensures { result ≡ belonging (state_number state) call }
 {

@@ -1,42 +1,25 @@
 // A card: put on a store, ejected, and what it tells of itself.
 ghost use Rattle.std.specs.Prelude.{◌≡◌};
-ghost use Rattle.label.specs.Told.{fields_in};
 ghost use Rattle.law.specs.Calls.{eject, ejected, status};
-ghost use Rattle.law.specs.Model.{off, state_by};
+ghost use Rattle.law.specs.Model.{off, state_of};
 ghost use Rattle.calls.specs.Replies.{state_number, answer_of, status_answer};
-ghost use Rattle.sealed_store.specs.Told.{kind_of, store_in};
-ghost use Rattle.card.specs.Cards.{card_in, outcome};
+ghost use Rattle.sealed_store.specs.Told.{kind_of};
+ghost use Rattle.card.specs.Cards.{card_in, Does};
 
 use crate::belongs::{Kind, belongs};
+use crate::engines::Engines;
 use calls::{State, Status};
 use engine::Engine;
 use label::label::Label;
 use refusal::Refusal;
-use sealed_store::keys;
-use sealing::pair::Pair;
 use store::Store;
 
-// While mounted it has its label, and `old` holds its pair; in a key change `new` holds the pair that it goes to.
-// Engines that a state doesn't use hold sixteen zero bytes.
+// While mounted it has its label, which tells its state.
 #[derive(Drop)]
 pub struct Card<E, S> {
     pub(crate) label: Option<Label>,
-    pub(crate) old: Pair<E>,
-    pub(crate) new: Pair<E>,
+    pub(crate) engines: Engines<E>,
     pub(crate) store: S,
-}
-
-// The state that a label tells.
-pub(crate) fn state_of(label: Option<Label>) -> State
-    ensures { state_number result ≡ state_by (fields_in label) }
-{
-    let Some(label) = label else {
-        return State::Unmounted;
-    };
-    match label.next {
-        None => State::AtRest,
-        Some(_) => State::Changing,
-    }
 }
 
 impl<E: Engine + Drop, S: Store> Card<E, S> {
@@ -47,8 +30,7 @@ impl<E: Engine + Drop, S: Store> Card<E, S> {
     {
         Card {
             label: None,
-            old: keys::idle(),
-            new: keys::idle(),
+            engines: Engines::idle(),
             store,
         }
     }
@@ -60,8 +42,19 @@ impl<E: Engine + Drop, S: Store> Card<E, S> {
         self.store
     }
 
+    // The state that its label tells.
+    pub(crate) fn state(&self) -> State
+        ensures { state_number result ≡ state_of (card_in E.Engine self.now) }
+    {
+        match self.label {
+            None => State::Unmounted,
+            Some(Label { next: None, .. }) => State::AtRest,
+            Some(_) => State::Changing,
+        }
+    }
+
     pub fn status(&self) -> Status
-        ensures { status_answer result ≡ (outcome E.Engine S.Store self.entry.now status).answer }
+        ensures { Does E.Engine S.Store self.now status (status_answer result) self.now }
     {
         let Some(label) = self.label else {
             return Status {
@@ -71,21 +64,18 @@ impl<E: Engine + Drop, S: Store> Card<E, S> {
             };
         };
         Status {
-            state: state_of(self.label),
+            state: self.state(),
             frames: self.store.count(),
             moved: label.moved as u64,
         }
     }
 
     pub fn eject(&mut self) -> Result<(), Refusal>
-        ensures answer { answer_of (λ _. ejected) result ≡ (outcome E.Engine S.Store self.entry.now eject).answer }
-        ensures card { card_in E.Engine self.exit.now ≡ (outcome E.Engine S.Store self.entry.now eject).card }
-        ensures store { store_in S.Store self.exit.now.store ≡ (outcome E.Engine S.Store self.entry.now eject).store }
+        ensures { Does E.Engine S.Store self.old eject (answer_of (λ _. ejected) result) self.new }
     {
-        belongs(state_of(self.label), Kind::Eject)?;
+        belongs(self.state(), Kind::Eject)?;
         self.label = None;
-        self.old = keys::idle();
-        self.new = keys::idle();
+        self.engines = Engines::idle();
         Ok(())
     }
 }

@@ -7,6 +7,7 @@ use crate::card::Card;
 use calls::{Reply, Request};
 use engine::Engine;
 use play::CardCalls;
+use refusal::Refusal;
 use store::Store;
 
 impl<E: Engine + Drop, S: Store> CardCalls for Card<E, S> {
@@ -28,37 +29,25 @@ impl<E: Engine + Drop, S: Store> CardCalls for Card<E, S> {
         Card::new(held)
     }
 
-    fn call(&mut self, request: &mut Request) -> Reply {
-        match request {
-            Request::Make(pair) => match self.make(pair) {
-                Ok(sealed) => Reply::Made(sealed),
-                Err(why) => Reply::Refused(why),
-            },
-            Request::Mount(pair, second) => match self.mount(pair, second) {
-                Ok(state) => Reply::Mounted(state),
-                Err(why) => Reply::Refused(why),
-            },
-            Request::Eject => match self.eject() {
-                Ok(_) => Reply::Ejected,
-                Err(why) => Reply::Refused(why),
-            },
-            Request::Read(n, buffer) => match self.read(*n, buffer) {
-                Ok(_) => Reply::Read,
-                Err(why) => Reply::Refused(why),
-            },
-            Request::Write(n, buffer) => match self.write(*n, buffer) {
-                Ok(_) => Reply::Written,
-                Err(why) => Reply::Refused(why),
-            },
-            Request::Start(pair) => match self.start(pair) {
-                Ok(steps) => Reply::Started(steps),
-                Err(why) => Reply::Refused(why),
-            },
-            Request::Step => match self.step() {
-                Ok(stepped) => Reply::Stepped(stepped),
-                Err(why) => Reply::Refused(why),
-            },
+    fn call(&mut self, request: &mut Request) -> Result<Reply, Refusal> {
+        Ok(match request {
+            Request::Make(pair) => Reply::Made(self.make(pair)?),
+            Request::Mount(pair, second) => Reply::Mounted(self.mount(pair, second)?),
+            Request::Eject => {
+                self.eject()?;
+                Reply::Ejected
+            }
+            Request::Read(n, buffer) => {
+                self.read(*n, buffer)?;
+                Reply::Read
+            }
+            Request::Write(n, buffer) => {
+                self.write(*n, buffer)?;
+                Reply::Written
+            }
+            Request::Start(pair) => Reply::Started(self.start(pair)?),
+            Request::Step => Reply::Stepped(self.step()?),
             Request::Status => Reply::Told(self.status()),
-        }
+        })
     }
 }

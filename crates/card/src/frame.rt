@@ -7,10 +7,10 @@ ghost use Rattle.law.specs.Checks.{first_of};
 ghost use Rattle.law.specs.Model.{keys_for};
 ghost use Rattle.calls.specs.Replies.{answer_of};
 ghost use Rattle.sealed_store.specs.Told.{keys_in, store_in};
-ghost use Rattle.card.specs.Cards.{card_in, outcome, slot_checks};
+ghost use Rattle.card.specs.Cards.{card_in, slot_checks, Does};
 
 use crate::belongs::{Kind, belongs};
-use crate::card::{Card, state_of};
+use crate::card::Card;
 use engine::Engine;
 use octets::octets;
 use refusal::Refusal;
@@ -40,25 +40,21 @@ fn check<S: Store>(store: &S, n: u64, len: usize) -> Result<(), Refusal>
 impl<E: Engine + Drop, S: Store> Card<E, S> {
     // The pair under which frame n stands: in a key change, the new one up to the last frame moved.
     fn pair_of(&self, n: u64) -> &Pair<E>
-        ensures { keys_in E.Engine result.now ≡ keys_for (card_in E.Engine self.entry.now) n }
+        ensures { keys_in E.Engine result.now ≡ keys_for (card_in E.Engine self.now) n }
     {
-        let Some(label) = self.label else {
-            return &self.old;
-        };
-        if label.next.is_some() && n <= label.moved as u64 {
-            &self.new
-        } else {
-            &self.old
+        match self.label {
+            Some(label) if label.next.is_some() && n <= label.moved as u64 => &self.engines.new,
+            _ => &self.engines.old,
         }
     }
 
     pub fn read(&self, n: u64, buffer: &mut [u8]) -> Result<(), Refusal>
         ensures bytes { Bytes buffer.old }
-        ensures answer { answer_of (λ _. got buffer.new) result ≡ (outcome E.Engine S.Store self.entry.now (read n buffer.old)).answer }
+        ensures done { Does E.Engine S.Store self.now (read n buffer.old) (answer_of (λ _. got buffer.new) result) self.now }
         ensures kept { is_ok result ≡ false → buffer.new ≡ buffer.old }
     {
         octets(buffer);
-        belongs(state_of(self.label), Kind::Read)?;
+        belongs(self.state(), Kind::Read)?;
         check(&self.store, n, buffer.len())?;
         let mut bytes = frames::fetch(&self.store, n);
         keys::open(self.pair_of(n), n, &mut bytes);
@@ -68,12 +64,10 @@ impl<E: Engine + Drop, S: Store> Card<E, S> {
 
     pub fn write(&mut self, n: u64, buffer: &[u8]) -> Result<(), Refusal>
         ensures bytes { Bytes buffer.now }
-        ensures answer { answer_of (λ _. kept) result ≡ (outcome E.Engine S.Store self.entry.now (write n buffer.now)).answer }
-        ensures card { card_in E.Engine self.exit.now ≡ (outcome E.Engine S.Store self.entry.now (write n buffer.now)).card }
-        ensures store { store_in S.Store self.exit.now.store ≡ (outcome E.Engine S.Store self.entry.now (write n buffer.now)).store }
+        ensures done { Does E.Engine S.Store self.old (write n buffer.now) (answer_of (λ _. kept) result) self.new }
     {
         octets(buffer);
-        belongs(state_of(self.label), Kind::Write)?;
+        belongs(self.state(), Kind::Write)?;
         check(&self.store, n, buffer.len())?;
         let mut bytes = [0; 128];
         bytes.copy_from_slice(buffer);

@@ -5,6 +5,7 @@ mod belongs;
 pub mod card;
 mod change;
 pub mod dispatch;
+mod engines;
 mod frame;
 mod make;
 mod mount;

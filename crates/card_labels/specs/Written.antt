@@ -17,7 +17,3 @@ stepped_by (Some next) l = Some (step_label (is_over l) l)
 
 abbrev pub stepped_fields : Fields → Option Fields
 stepped_fields l = stepped_by l.next l
-
--- the bits of either key of a pair of so many bytes
-abbrev pub pair_bits : ℕ → Option ℕ
-pair_bits len = cond (paired len) (Some (4 * len)) None

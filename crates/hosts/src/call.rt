@@ -1,46 +1,34 @@
 // One frame under a lent pair, for any engine; the pair's bytes are zero afterwards on every way out.
-ghost use Rattle.std.specs.Prelude.{◌≡◌, ℕ, ◌&&◌, length, replicate};
-ghost use Rattle.sealing.specs.Xts.{xts};
-ghost use Rattle.hosts.specs.Calls.{returned, framed, left, accepted, under, way_of};
+ghost use Rattle.std.specs.Prelude.{◌≡◌};
+ghost use Rattle.hosts.specs.Calls.{Served, number_of, under};
 
 use crate::way::Way;
 use engine::Engine;
+use refusal::Refusal;
 use sealing::pair::Pair;
 use sealing::wiped::Wiped;
 
-const ACCEPTED: u32 = 0;
-
-const PAIR_LENGTH: u32 = 2;
-
-const FRAME_LENGTH: u32 = 3;
-
-pub(crate) fn call<E: Engine + Drop>(way: Way, pair: &mut [u8], frame: u64, bytes: &mut [u8]) -> u32
-    ensures answer { result ≡ returned (accepted E.Engine.takes (length pair.old)) (framed bytes.old) }
-    ensures zeroed { pair.new ≡ replicate (length pair.old) 0 }
-    ensures stored { bytes.new ≡ left (accepted E.Engine.takes (length pair.old) && framed bytes.old)
-        (under way E.Engine.cipher E.Engine.inverse pair.old frame bytes.old) bytes.old }
+pub(crate) fn call<E: Engine + Drop, W: Way>(
+    pair: &mut [u8],
+    frame: u64,
+    bytes: &mut [u8],
+) -> Result<(), Refusal>
+    ensures { Served E.Engine.takes (under W.over E.Engine.cipher E.Engine.inverse) pair.old frame bytes.old (number_of result) pair.new bytes.new }
 {
     let lent = Wiped { keys: pair };
     let mut keys = Pair::<E>::new();
-    let Ok(()) = keys.load(lent.keys) else {
-        return PAIR_LENGTH;
-    };
-    if bytes.len() != 128 {
-        return FRAME_LENGTH;
-    }
-    let mut whole = [0; 128];
-    whole.copy_from_slice(bytes);
-    go(way, &keys, frame, &mut whole);
-    bytes.copy_from_slice(&whole);
-    ACCEPTED
+    keys.load(lent.keys)?;
+    let bytes = bytes.as_mut_array().ok_or(Refusal::BufferLength(frame))?;
+    W::go(&keys, frame, bytes);
+    Ok(())
 }
 
-fn go<E: Engine>(way: Way, keys: &Pair<E>, frame: u64, bytes: &mut [u8; 128])
-    ensures { bytes.new
-        ≡ xts (way_of way (E.enciphers keys.now.cipher) (E.deciphers keys.now.cipher)) (E.enciphers keys.now.tweak) frame bytes.old }
+// What C sees of an answer: 0, or the refusal's number.
+pub(crate) fn number(answer: Result<(), Refusal>) -> u32
+    ensures { result ≡ number_of answer }
 {
-    match way {
-        Way::Seal => keys.seal(frame, bytes),
-        Way::Open => keys.open(frame, bytes),
+    match answer {
+        Ok(()) => 0,
+        Err(why) => u32::from(why.number()),
     }
 }

@@ -1,10 +1,10 @@
 -- The tests of the rules decide them.
-use Rattle.std.proofs.Common.{◌≡◌, ℕ, zero, suc, ◌-◌, ◌<◌, ◌≤◌, Bool, true, false, ◌&&◌, eqb, ltb, leb, List, [], ◌∷◌, length, get_or, Some, None, Decides, Option, sym, refl, ◌∙◌, arith}
+use Rattle.std.proofs.Common.{◌≡◌, ℕ, zero, suc, ◌-◌, ◌<◌, ◌≤◌, Bool, false, ◌&&◌, eqb, ltb, leb, List, [], ◌∷◌, length, Some, None, Decides, Option, sym, refl, arith}
 use Rattle.std.specs.Char.{is_ascii_lowercase}
 use Rattle.std.specs.List.{AllByRecursion, list_all}
 use Rattle.std.proofs.lemmas.Bool.Decides.{Decides-and, Decides-like, Decides-eqb, Decides-ltb, same_from_decides}
 use Rattle.std.proofs.ByRecursion.{Decides-by_and, All-get_or, All-from_get_or}
-use Rattle.std.proofs.lemmas.Bool.{and_from, leb-true, le-leb, false≢true, cond-true, cond-false}
+use Rattle.std.proofs.lemmas.Bool.{leb-true, le-leb, false≢true, cond-true, cond-false}
 use Rattle.octets.specs.Octets.{Bytes}
 use Rattle.engine.specs.Kind.{EightLetters}
 use Rattle.label.specs.Text.{Fields, Four, Rules}
@@ -30,13 +30,9 @@ lettered_decides name =
     (λ h. (h.eight, All-from_get_or Letter name 0 (λ i l. h.letters i (omega (arith, h.eight)))))
     (counted 8 (λ c. leb 97 c && leb c 122) Letter (λ c. Decides-and (leb 97 c) (leb c 122) (decides_leb 97 c) (decides_leb c 122)) name)
 
--- a character that is no letter, as the standard library tests it
-pub not-lettered : (name : List ℕ) (i : ℕ) → i < 8 → false ≡ is_ascii_lowercase (get_or name i 0) → false ≡ lettered name
-not-lettered name i l none =
-    let lower : Letter (get_or name i 0) → is_ascii_lowercase (get_or name i 0) ≡ true = λ h. and_from _ _ (le-leb 97 (get_or name i 0) h.0) (le-leb (get_or name i 0) 122 h.1) in
-    same_from_decides false (lettered name)
-    ((λ e. absurd (false≢true e)), (λ h. absurd (false≢true (none ∙ lower (h.letters i l)))))
-    (lettered_decides name)
+-- of eight characters the letters decide
+pub lettered_name : (name : List ℕ) → length name ≡ 8 → list_all is_ascii_lowercase name ≡ lettered name
+lettered_name name l = rw l refl
 
 pub small_decides : (s : List ℕ) → Decides (list_all (λ x. ltb x 256) s) (AllByRecursion (λ x. x < 256) s)
 small_decides = Decides-by_and (λ x. ltb x 256) (λ x. x < 256) (list_all (λ x. ltb x 256)) (λ x. Decides-ltb x 256) refl (λ x xs. refl)

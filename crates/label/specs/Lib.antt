@@ -1,5 +1,4 @@
 pub mod Text
 pub mod Read
 pub mod Told
-pub mod Values
 pub mod Faithful

@@ -1,4 +1,4 @@
-// The size of a key in a label's line and in a pair.
+// The size of a key in a label's line and in a pair. The methods have names, since `From` and `TryFrom` would not say which of the two they read.
 ghost use Rattle.std.specs.Prelude.{◌≡◌, ◌*◌, MatchOption, ◌≢◌};
 ghost use Rattle.text_lines.specs.Decimal.{numeral};
 ghost use Rattle.label.specs.Told.{bits};
@@ -15,6 +15,17 @@ impl KeyBits {
             48 => Some(KeyBits::K192),
             64 => Some(KeyBits::K256),
             _ => None,
+        }
+    }
+
+    // How many bytes a pair of such keys has.
+    pub fn pair_len(self) -> usize
+        ensures { 4 * result ≡ bits self }
+    {
+        match self {
+            KeyBits::K128 => 32,
+            KeyBits::K192 => 48,
+            KeyBits::K256 => 64,
         }
     }
 

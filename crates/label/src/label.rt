@@ -28,3 +28,6 @@ pub struct Label {
     ghost within: { moved < frames - 1 },
     ghost still: { (next ≡ None → moved ≡ 0) },
 }
+
+// The line `next` of a label with no change under way.
+pub(crate) const AT_REST: [u8; 8] = *b"--------";

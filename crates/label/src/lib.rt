@@ -5,6 +5,5 @@ mod keybits;
 pub mod label;
 pub mod laws;
 mod new;
-mod next;
 mod reading;
 mod writing;

@@ -62,8 +62,32 @@ next-step = record { value = λ v. v.next; wide = λ v z. z.next; splits = λ v.
 pub moved-step : Step (codes "moved") 4 from-moved (λ v. replicate 48 0)
 moved-step = record { value = λ v. v.moved; wide = λ v z. z.moved; splits = λ v. refl }
 
+-- what is left after each line
 pub start : (frame : List ℕ) → Left frame laid frame
 start frame v h = h.reads
+
+pub past-cipher : {frame s a : List ℕ} → LineOf frame (codes "cipher") 8 a s → Left frame from-keybits s
+past-cipher {frame} = pass cipher-step (start frame)
+
+pub past-keybits : {frame s t a b : List ℕ} → LineOf frame (codes "cipher") 8 a s → LineOf s (codes "keybits") 3 b t → Left frame from-frames t
+past-keybits cipher = pass keybits-step (past-cipher cipher)
+
+pub past-frames : {frame s t u a b c : List ℕ} → LineOf frame (codes "cipher") 8 a s → LineOf s (codes "keybits") 3 b t
+    → LineOf t (codes "frames") 4 c u → Left frame from-check u
+past-frames cipher keybits = pass frames-step (past-keybits cipher keybits)
+
+pub past-check : {frame s t u w a b c d : List ℕ} → LineOf frame (codes "cipher") 8 a s → LineOf s (codes "keybits") 3 b t
+    → LineOf t (codes "frames") 4 c u → LineOf u (codes "check") 8 d w → Left frame from_next w
+past-check cipher keybits frames = pass check-step (past-frames cipher keybits frames)
+
+pub past_next : {frame s t u w x a b c d e : List ℕ} → LineOf frame (codes "cipher") 8 a s → LineOf s (codes "keybits") 3 b t
+    → LineOf t (codes "frames") 4 c u → LineOf u (codes "check") 8 d w → LineOf w (codes "next") 8 e x → Left frame from-moved x
+past_next cipher keybits frames check = pass next-step (past-check cipher keybits frames check)
+
+pub past-moved : {frame s t u w x y a b c d e f : List ℕ} → LineOf frame (codes "cipher") 8 a s → LineOf s (codes "keybits") 3 b t
+    → LineOf t (codes "frames") 4 c u → LineOf u (codes "check") 8 d w → LineOf w (codes "next") 8 e x → LineOf x (codes "moved") 4 f y
+    → Left frame (λ v. replicate 48 0) y
+past-moved cipher keybits frames check next = pass moved-step (past_next cipher keybits frames check next)
 
 -- lines taken off one after the other are the lines of a label
 pub taken_apart : {frame s t u w x y a b c d e f : List ℕ}

@@ -1,9 +1,10 @@
 // Takes the lines of a label apart, a slice pattern to a line: the letters of its key, its value, and the rest.
-ghost use Rattle.std.specs.Prelude.{◌≡◌, replicate, codes, Decides, MatchOption};
+// By the project's rule each is such a pattern, whose letters and digits stand one by one, so none can be generic.
+ghost use Rattle.std.specs.Prelude.{codes, MatchOption};
 ghost use Rattle.label_lines.specs.Lines.{Values, LinesOf};
 ghost use Rattle.label_lines.specs.Held.{Cuts, held};
 
-use crate::lines::Lines;
+use crate::lines::{FILLING, Lines};
 
 fn cipher_line(text: &[u8]) -> Option<([u8; 8], &[u8])>
     ensures { Cuts text.now (codes "cipher") 8 result }
@@ -151,19 +152,6 @@ fn moved_line(text: &[u8]) -> Option<([u8; 4], &[u8])>
     }
 }
 
-fn same(one: &[u8], other: &[u8]) -> bool
-    ensures { Decides result (one.now ≡ other.now) }
-{
-    one == other
-}
-
-// Whether the text is the zero bytes that end a label.
-fn is_filling(text: &[u8]) -> bool
-    ensures { Decides result (text.now ≡ replicate 48 0) }
-{
-    same(text, &[0; 48])
-}
-
 impl Lines {
     // The values of a frame that has a label's lines and nothing else.
     pub fn read(frame: &[u8]) -> Option<Lines>
@@ -177,7 +165,7 @@ impl Lines {
         let (check, rest) = check_line(rest)?;
         let (next, rest) = next_line(rest)?;
         let (moved, rest) = moved_line(rest)?;
-        if !is_filling(rest) {
+        if rest != FILLING {
             return None;
         }
         Some(Lines {

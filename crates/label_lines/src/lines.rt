@@ -8,3 +8,6 @@ pub struct Lines {
     pub next: [u8; 8],
     pub moved: [u8; 4],
 }
+
+// The zero bytes that fill a label's frame after its lines.
+pub(crate) const FILLING: &[u8] = &[0; 48];

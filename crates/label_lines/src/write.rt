@@ -1,41 +1,31 @@
 // Puts the lines of a label together.
-ghost use Rattle.std.specs.Prelude.{◌≡◌, ℕ, ◌+◌, ◌≤◌, [], ◌++◌, length, take, drop};
+ghost use Rattle.std.specs.Prelude.{◌≡◌, ◌+◌, ◌≤◌, [], ◌++◌, length};
+ghost use Rattle.arrayvec.specs.ArrayVec.{array_vec_len};
 ghost use Rattle.text_lines.specs.Line.{line};
 ghost use Rattle.label_lines.specs.Lines.{laid};
 ghost use Rattle.label_lines.specs.Held.{held};
 
-use crate::lines::Lines;
+use crate::lines::{FILLING, Lines};
+use arrayvec::ArrayVec;
 
-fn fill(slot: &mut [u8], part: &[u8])
-    requires { length slot.old ≡ length part.now }
-    ensures { slot.new ≡ part.now }
+fn append(text: &mut ArrayVec<u8, 128>, part: &[u8])
+    requires { array_vec_len text.old + length part.now ≤ 128 }
+    ensures items { text.new.items ≡ text.old.items ++ part.now }
+    ensures len { array_vec_len text.new ≡ array_vec_len text.old + length part.now }
 {
-    slot.copy_from_slice(part);
+    text.try_extend_from_slice(part).unwrap()
 }
 
-// Writes a part at a place and answers where it ends.
-fn paste(out: &mut [u8], at: usize, part: &[u8]) -> usize
-    requires { at + length part.now ≤ length out.old }
-    ensures place { result ≡ at + length part.now }
-    ensures before { take result out.new ≡ take at out.old ++ part.now }
-    ensures after { (n : ℕ) → result ≤ n → drop n out.new ≡ drop n out.old }
+#[tactic(auto, using(std::proofs::lemmas::List::append_assoc), unfolding(text_lines::specs::Line::assigned))]
+fn append_line(text: &mut ArrayVec<u8, 128>, name: &[u8], value: &[u8])
+    requires { array_vec_len text.old + (length name.now + length value.now + 2) ≤ 128 }
+    ensures items { text.new.items ≡ text.old.items ++ line name.now value.now [] }
+    ensures len { array_vec_len text.new ≡ array_vec_len text.old + (length name.now + length value.now + 2) }
 {
-    let end = at + part.len();
-    fill(&mut out[at..end], part);
-    end
-}
-
-// Writes a line at a place and answers where it ends.
-fn put(out: &mut [u8], at: usize, name: &[u8], value: &[u8]) -> usize
-    requires { at + (length name.now + length value.now + 2) ≤ length out.old }
-    ensures place { result ≡ at + (length name.now + length value.now + 2) }
-    ensures before { take result out.new ≡ take at out.old ++ line name.now value.now [] }
-    ensures after { (n : ℕ) → result ≤ n → drop n out.new ≡ drop n out.old }
-{
-    let at = paste(out, at, name);
-    let at = paste(out, at, b"=");
-    let at = paste(out, at, value);
-    paste(out, at, b"\n")
+    append(text, name);
+    append(text, b"=");
+    append(text, value);
+    append(text, b"\n");
 }
 
 impl Lines {
@@ -43,13 +33,14 @@ impl Lines {
     pub fn write(&self) -> [u8; 128]
         ensures { result ≡ laid (held self.now) }
     {
-        let mut out = [0; 128];
-        let at = put(&mut out, 0, b"cipher", &self.cipher);
-        let at = put(&mut out, at, b"keybits", &self.keybits);
-        let at = put(&mut out, at, b"frames", &self.frames);
-        let at = put(&mut out, at, b"check", &self.check);
-        let at = put(&mut out, at, b"next", &self.next);
-        put(&mut out, at, b"moved", &self.moved);
-        out
+        let mut text = ArrayVec::new();
+        append_line(&mut text, b"cipher", &self.cipher);
+        append_line(&mut text, b"keybits", &self.keybits);
+        append_line(&mut text, b"frames", &self.frames);
+        append_line(&mut text, b"check", &self.check);
+        append_line(&mut text, b"next", &self.next);
+        append_line(&mut text, b"moved", &self.moved);
+        append(&mut text, FILLING);
+        text.into_inner().unwrap()
     }
 }

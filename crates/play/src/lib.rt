@@ -6,11 +6,13 @@ ghost use Rattle.law.specs.Kind.{Kind, Lawful};
 ghost use Rattle.law.specs.Store.{Store, Sized as SizedStore};
 ghost use Rattle.law.specs.Calls.{Given, left_by};
 ghost use Rattle.law.specs.Model.{Card, off, act};
+ghost use Rattle.calls.specs.Outcomes.{ComesTo};
 ghost use Rattle.calls.specs.Replies.{answer_by};
-ghost use Rattle.calls.specs.Turns.{call_of, buffer_in, call_in, answer_in};
+ghost use Rattle.calls.specs.Turns.{call_of, buffer_in};
 ghost use Rattle.play.specs.Played.{Ran, BothPlayed};
 
 use calls::{Reply, Request, Turn};
+use refusal::Refusal;
 
 // A card that takes one call at a time, put new on a store.
 pub trait CardCalls: Sized {
@@ -30,11 +32,10 @@ pub trait CardCalls: Sized {
         ensures card { card result ≡ off kind }
         ensures store { store result ≡ told held };
 
-    fn call(&mut self, request: &mut Request) -> Reply
+    // The bytes that a request brings are left as the answer says: keys zeroed, and a frame in the buffer of a read.
+    fn call(&mut self, request: &mut Request) -> Result<Reply, Refusal>
         ensures given { Given (call_of request.old) }
-        ensures answer { answer_by result (buffer_in request.new) ≡ (act kind (card self.old) (store self.old) (call_of request.old)).answer }
-        ensures card { card self.new ≡ (act kind (card self.old) (store self.old) (call_of request.old)).card }
-        ensures store { store self.new ≡ (act kind (card self.old) (store self.old) (call_of request.old)).store }
+        ensures came { ComesTo (act kind (card self.old) (store self.old) (call_of request.old)) (answer_by result (buffer_in request.new)) (card self.new) (store self.new) }
         ensures left { call_of request.new ≡ left_by (call_of request.old) (answer_by result (buffer_in request.new)) };
 
     ghost lawful: { Lawful kind };
@@ -42,23 +43,12 @@ pub trait CardCalls: Sized {
     ghost sized: { (c : Self) → SizedStore (store c) };
 }
 
-fn take_turn<C: CardCalls>(card: &mut C, turn: &mut Turn)
-    ensures given { Given (call_in turn.old) }
-    ensures answer { answer_in turn.new ≡ (act C.CardCalls.kind (C.CardCalls.card card.old) (C.CardCalls.store card.old) (call_in turn.old)).answer }
-    ensures card { C.CardCalls.card card.new ≡ (act C.CardCalls.kind (C.CardCalls.card card.old) (C.CardCalls.store card.old) (call_in turn.old)).card }
-    ensures store { C.CardCalls.store card.new ≡ (act C.CardCalls.kind (C.CardCalls.card card.old) (C.CardCalls.store card.old) (call_in turn.old)).store }
-    ensures left { call_in turn.new ≡ left_by (call_in turn.old) (answer_in turn.new) }
-{
-    let reply = card.call(&mut turn.request);
-    turn.reply = reply;
-}
-
 // Plays the turns on a card, one after the other.
 fn play<C: CardCalls>(card: &mut C, turns: &mut [Turn])
     ensures { Ran C.CardCalls.kind (C.CardCalls.card card.old) (C.CardCalls.card card.new) (C.CardCalls.store card.old) (C.CardCalls.store card.new) turns.old turns.new }
 {
-    for i in 0..turns.len() {
-        take_turn(card, &mut turns[i]);
+    for turn in turns.iter_mut() {
+        turn.reply = Some(card.call(&mut turn.request));
     }
 }
 

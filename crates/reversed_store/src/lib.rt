@@ -31,7 +31,7 @@ impl ReversedImage {
         self.image.into_bytes()
     }
 
-    #[tactic(auto, using(crate::proofs::Back::length_back))]
+    #[tactic(auto, using(store::specs::Slots::slots))]
     fn slot(&self, n: u64) -> u64
         requires { n < frame_count (length self.now.image.bytes.items) }
         ensures { result ≡ backwards (frame_count (length self.now.image.bytes.items)) n }
@@ -56,6 +56,7 @@ impl Store for ReversedImage {
 
     ghost present = { λ s n h. refl };
 
+    #[tactic(auto, using(store::specs::Slots::slots))]
     fn count(&self) -> u64 {
         self.image.count()
     }
@@ -64,12 +65,14 @@ impl Store for ReversedImage {
         false
     }
 
+    #[tactic(auto, using(store::specs::Slots::slots))]
     fn read(&self, n: u64, buffer: &mut [u8]) -> Result<(), Refusal> {
         self.check(n, buffer.len())?;
         let slot = self.slot(n);
         self.image.read(slot, buffer)
     }
 
+    #[tactic(auto, using(store::specs::Slots::slots, crate::proofs::Back::frames_back_placed))]
     fn write(&mut self, n: u64, buffer: &[u8]) -> Result<(), Refusal> {
         self.check(n, buffer.len())?;
         let slot = self.slot(n);

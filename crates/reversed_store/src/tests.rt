@@ -13,9 +13,9 @@ fn ends<S: Store>(store: &mut S, last: u64) -> bool {
         && store.read(last, &mut buffer) == Ok(())
         && buffer == [7; 128]
         && store.read(last, &mut buffer[1..]) == Err(Refusal::BufferLength(last))
-        && refuses(store, store.count())
-        && refuses(store, 1 << 63)
-        && refuses(store, u64::MAX)
+        && [store.count(), 1 << 63, u64::MAX]
+            .iter()
+            .all(|n| refuses(store, *n))
 }
 
 fn refuses<S: Store>(store: &mut S, n: u64) -> bool {

@@ -1,2 +1,0 @@
-mod PairKeys
-mod Writes

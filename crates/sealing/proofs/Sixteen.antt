@@ -1,18 +1,22 @@
 -- Sixteen bytes and the number that they are.
-use Rattle.std.proofs.Common.{◌≡◌, ℕ, zero, suc, ◌+◌, ◌*◌, ◌/◌, ◌%◌, ◌^◌, ◌<◌, List, [], ◌∷◌, map, get_or, sym, refl, ap, ◌∙◌, ap₂, arith}
-use lib.Bits.{bit_xor, xor_block, xor_lt, xor_assoc, xor_self, xor_zero_r}
-use Rattle.std.proofs.lemmas.Slice.Eq.{text_from_reads}
+use Rattle.std.proofs.Common.{◌≡◌, ℕ, zero, suc, ◌+◌, ◌*◌, ◌/◌, ◌%◌, ◌^◌, ◌<◌, List, [], ◌∷◌, ◌++◌, map, length-drop, length-take, length, take, drop, get_or, set, refl, ap, ◌∙◌, ap₂, add-one, arith}
+use Rattle.std.specs.Int.{w64, w128, from_le_bytes, to_le_bytes}
+use lib.Bits.{bit_xor, xor_assoc, xor_self, xor_zero_r, xor_shr, xor_mod}
+use Rattle.std.proofs.lemmas.Grind.{common_steps}
+use Rattle.std.proofs.lemmas.List.{take-append-drop}
+use Rattle.std.proofs.lemmas.Nat.{le_bytes_8}
 use Rattle.octets.specs.Octets.{Bytes, Block}
+use Rattle.octets.proofs.Bytes.{take-bytes, drop-bytes}
 use Rattle.sealing.specs.Xts.{bytes16, number8, number16, added}
 
-pub number-bytes : (x : ℕ) → x < 2 ^ 128 → number16 (bytes16 x) ≡ x
-unfolding number16 bytes16
-number-bytes x h = omega arith
-
-pub number_lt : (b : List ℕ) → Bytes b → number16 b < 2 ^ 128
+-- what std reads from sixteen bytes
+pub number_read : (b : List ℕ) (n : ℕ) → n ≡ from_le_bytes w128 b → n ≡ number16 b
 unfolding number16
-number_lt b h =
-    omega (arith, h 0, h 1, h 2, h 3, h 4, h 5, h 6, h 7, h 8, h 9, h 10, h 11, h 12, h 13, h 14, h 15)
+number_read b n e = omega arith
+
+pub number_bytes : (x : ℕ) → x < 2 ^ 128 → number16 (bytes16 x) ≡ x
+unfolding number16 bytes16
+number_bytes x h = omega arith
 
 mods_bytes : (qs : List ℕ) → Bytes (map (λ q. q % 256) qs)
 mods_bytes [] i = omega arith
@@ -28,124 +32,67 @@ bytes_block x = record {
       ∷ (x / 2 ^ 64) ∷ (x / 2 ^ 72) ∷ (x / 2 ^ 80) ∷ (x / 2 ^ 88) ∷ (x / 2 ^ 96) ∷ (x / 2 ^ 104) ∷ (x / 2 ^ 112) ∷ (x / 2 ^ 120) ∷ []);
 }
 
-record Digits (v : ℕ) (b : List ℕ) (i : ℕ) : Type 0 where
-  d0 : v % 256 ≡ get_or b i 0
-  d1 : v / 2 ^ 8 % 256 ≡ get_or b (i + 1) 0
-  d2 : v / 2 ^ 16 % 256 ≡ get_or b (i + 2) 0
-  d3 : v / 2 ^ 24 % 256 ≡ get_or b (i + 3) 0
-  d4 : v / 2 ^ 32 % 256 ≡ get_or b (i + 4) 0
-  d5 : v / 2 ^ 40 % 256 ≡ get_or b (i + 5) 0
-  d6 : v / 2 ^ 48 % 256 ≡ get_or b (i + 6) 0
-  d7 : v / 2 ^ 56 % 256 ≡ get_or b (i + 7) 0
-  small : v < 2 ^ 64
+-- a number's bytes are those of its halves
+halves : (lo hi : ℕ) → lo < 2 ^ 64 → bytes16 (lo + hi * 2 ^ 64) ≡ to_le_bytes w64 lo ++ to_le_bytes w64 hi
+unfolding bytes16
+halves lo hi h = grind arith
 
-digits8 : (b : List ℕ) (i : ℕ) → Bytes b → Digits (number8 b i) b i
-digits8 b i h =
-    let h0 = h i in
-    let h1 = h (i + 1) in
-    let h2 = h (i + 2) in
-    let h3 = h (i + 3) in
-    let h4 = h (i + 4) in
-    let h5 = h (i + 5) in
-    let h6 = h (i + 6) in
-    let h7 = h (i + 7) in
-    record {
-      d0 = omega arith;
-      d1 = omega arith;
-      d2 = omega arith;
-      d3 = omega arith;
-      d4 = omega arith;
-      d5 = omega arith;
-      d6 = omega arith;
-      d7 = omega arith;
-      small = omega arith;
-    }
+pub halved_bytes : (x : ℕ) → bytes16 x ≡ to_le_bytes w64 (x % 2 ^ 64) ++ to_le_bytes w64 (x / 2 ^ 64)
+halved_bytes x =
+    let e : x ≡ x % 2 ^ 64 + x / 2 ^ 64 * 2 ^ 64 = omega arith in ap bytes16 e ∙ halves (x % 2 ^ 64) (x / 2 ^ 64) (omega arith)
 
-number-halves : (b : List ℕ) → number16 b ≡ number8 b 0 + number8 b 8 * 2 ^ 64
-unfolding number16
-number-halves b = refl
+number8_lt : (b : List ℕ) → Bytes b → number8 b 0 < 2 ^ 64
+number8_lt b h = omega (arith, h 0, h 1, h 2, h 3, h 4, h 5, h 6, h 7)
 
--- the bytes of a sum of a low and a high half
-record Low (lo hi : ℕ) : Type 0 where
-  l0 : (lo + hi * 2 ^ 64) % 256 ≡ lo % 256
-  l1 : (lo + hi * 2 ^ 64) / 2 ^ 8 % 256 ≡ lo / 2 ^ 8 % 256
-  l2 : (lo + hi * 2 ^ 64) / 2 ^ 16 % 256 ≡ lo / 2 ^ 16 % 256
-  l3 : (lo + hi * 2 ^ 64) / 2 ^ 24 % 256 ≡ lo / 2 ^ 24 % 256
-  l4 : (lo + hi * 2 ^ 64) / 2 ^ 32 % 256 ≡ lo / 2 ^ 32 % 256
-  l5 : (lo + hi * 2 ^ 64) / 2 ^ 40 % 256 ≡ lo / 2 ^ 40 % 256
-  l6 : (lo + hi * 2 ^ 64) / 2 ^ 48 % 256 ≡ lo / 2 ^ 48 % 256
-  l7 : (lo + hi * 2 ^ 64) / 2 ^ 56 % 256 ≡ lo / 2 ^ 56 % 256
+first_half : (b : List ℕ) → number8 b 0 ≡ from_le_bytes w64 (take 8 b)
+first_half b = grind (arith, common_steps)
 
-record High (lo hi : ℕ) : Type 0 where
-  u0 : (lo + hi * 2 ^ 64) / 2 ^ 64 % 256 ≡ hi % 256
-  u1 : (lo + hi * 2 ^ 64) / 2 ^ 72 % 256 ≡ hi / 2 ^ 8 % 256
-  u2 : (lo + hi * 2 ^ 64) / 2 ^ 80 % 256 ≡ hi / 2 ^ 16 % 256
-  u3 : (lo + hi * 2 ^ 64) / 2 ^ 88 % 256 ≡ hi / 2 ^ 24 % 256
-  u4 : (lo + hi * 2 ^ 64) / 2 ^ 96 % 256 ≡ hi / 2 ^ 32 % 256
-  u5 : (lo + hi * 2 ^ 64) / 2 ^ 104 % 256 ≡ hi / 2 ^ 40 % 256
-  u6 : (lo + hi * 2 ^ 64) / 2 ^ 112 % 256 ≡ hi / 2 ^ 48 % 256
-  u7 : (lo + hi * 2 ^ 64) / 2 ^ 120 % 256 ≡ hi / 2 ^ 56 % 256
-
-low : (lo hi : ℕ) → Low lo hi
-low lo hi =
-    let q1 : (lo + hi * 2 ^ 64) / 2 ^ 8 ≡ lo / 2 ^ 8 + hi * 2 ^ 56 = omega arith in
-    let q2 : (lo + hi * 2 ^ 64) / 2 ^ 16 ≡ lo / 2 ^ 16 + hi * 2 ^ 48 = omega arith in
-    let q3 : (lo + hi * 2 ^ 64) / 2 ^ 24 ≡ lo / 2 ^ 24 + hi * 2 ^ 40 = omega arith in
-    let q4 : (lo + hi * 2 ^ 64) / 2 ^ 32 ≡ lo / 2 ^ 32 + hi * 2 ^ 32 = omega arith in
-    let q5 : (lo + hi * 2 ^ 64) / 2 ^ 40 ≡ lo / 2 ^ 40 + hi * 2 ^ 24 = omega arith in
-    let q6 : (lo + hi * 2 ^ 64) / 2 ^ 48 ≡ lo / 2 ^ 48 + hi * 2 ^ 16 = omega arith in
-    let q7 : (lo + hi * 2 ^ 64) / 2 ^ 56 ≡ lo / 2 ^ 56 + hi * 2 ^ 8 = omega arith in
-    record { l0 = omega arith; l1 = ap (λ v. v % 256) q1 ∙ omega arith; l2 = ap (λ v. v % 256) q2 ∙ omega arith; l3 = ap (λ v. v % 256) q3 ∙ omega arith; l4 = ap (λ v. v % 256) q4 ∙ omega arith; l5 = ap (λ v. v % 256) q5 ∙ omega arith; l6 = ap (λ v. v % 256) q6 ∙ omega arith; l7 = ap (λ v. v % 256) q7 ∙ omega arith }
-
-high : (lo hi : ℕ) → lo < 2 ^ 64 → High lo hi
-high lo hi h =
-    let r0 : (lo + hi * 2 ^ 64) / 2 ^ 64 ≡ hi = omega arith in
-    let r1 : (lo + hi * 2 ^ 64) / 2 ^ 72 ≡ hi / 2 ^ 8 = omega arith in
-    let r2 : (lo + hi * 2 ^ 64) / 2 ^ 80 ≡ hi / 2 ^ 16 = omega arith in
-    let r3 : (lo + hi * 2 ^ 64) / 2 ^ 88 ≡ hi / 2 ^ 24 = omega arith in
-    let r4 : (lo + hi * 2 ^ 64) / 2 ^ 96 ≡ hi / 2 ^ 32 = omega arith in
-    let r5 : (lo + hi * 2 ^ 64) / 2 ^ 104 ≡ hi / 2 ^ 40 = omega arith in
-    let r6 : (lo + hi * 2 ^ 64) / 2 ^ 112 ≡ hi / 2 ^ 48 = omega arith in
-    let r7 : (lo + hi * 2 ^ 64) / 2 ^ 120 ≡ hi / 2 ^ 56 = omega arith in
-    record { u0 = ap (λ v. v % 256) r0; u1 = ap (λ v. v % 256) r1; u2 = ap (λ v. v % 256) r2; u3 = ap (λ v. v % 256) r3; u4 = ap (λ v. v % 256) r4; u5 = ap (λ v. v % 256) r5; u6 = ap (λ v. v % 256) r6; u7 = ap (λ v. v % 256) r7 }
+second_half : (b : List ℕ) → number8 b 8 ≡ from_le_bytes w64 (drop 8 b)
+second_half b = grind (arith, common_steps)
 
 pub bytes-number : (b : List ℕ) → Block b → bytes16 (number16 b) ≡ b
-unfolding bytes16
+unfolding number16
 bytes-number b p =
-    let y : ℕ = number16 b in
-    let lo : ℕ = number8 b 0 in
-    let hi : ℕ = number8 b 8 in
-    let e : y ≡ lo + hi * 2 ^ 64 = number-halves b in
-    let l = digits8 b 0 p.bytes in
-    let u = digits8 b 8 p.bytes in
-    let s = l.small in
-    let t = u.small in
-    (λ i.
-    (ap (λ v. v % 256) e ∙ (low lo hi).l0 ∙ l.d0) i ∷ (ap (λ v. v / 2 ^ 8 % 256) e ∙ (low lo hi).l1 ∙ l.d1) i ∷ (ap (λ v. v / 2 ^ 16 % 256) e ∙ (low lo hi).l2 ∙ l.d2) i ∷ (ap (λ v. v / 2 ^ 24 % 256) e ∙ (low lo hi).l3 ∙ l.d3) i ∷ (ap (λ v. v / 2 ^ 32 % 256) e ∙ (low lo hi).l4 ∙ l.d4) i ∷ (ap (λ v. v / 2 ^ 40 % 256) e ∙ (low lo hi).l5 ∙ l.d5) i ∷ (ap (λ v. v / 2 ^ 48 % 256) e ∙ (low lo hi).l6 ∙ l.d6) i ∷ (ap (λ v. v / 2 ^ 56 % 256) e ∙ (low lo hi).l7 ∙ l.d7) i
-    ∷ (ap (λ v. v / 2 ^ 64 % 256) e ∙ (high lo hi s).u0 ∙ u.d0) i ∷ (ap (λ v. v / 2 ^ 72 % 256) e ∙ (high lo hi s).u1 ∙ u.d1) i ∷ (ap (λ v. v / 2 ^ 80 % 256) e ∙ (high lo hi s).u2 ∙ u.d2) i ∷ (ap (λ v. v / 2 ^ 88 % 256) e ∙ (high lo hi s).u3 ∙ u.d3) i ∷ (ap (λ v. v / 2 ^ 96 % 256) e ∙ (high lo hi s).u4 ∙ u.d4) i ∷ (ap (λ v. v / 2 ^ 104 % 256) e ∙ (high lo hi s).u5 ∙ u.d5) i ∷ (ap (λ v. v / 2 ^ 112 % 256) e ∙ (high lo hi s).u6 ∙ u.d6) i ∷ (ap (λ v. v / 2 ^ 120 % 256) e ∙ (high lo hi s).u7 ∙ u.d7) i ∷ [])
-    ∙ sym (text_from_reads b _ p.sixteen
-    (refl, (refl, (refl, (refl, (refl, (refl, (refl, (refl, (refl, (refl, (refl, (refl, (refl, (refl, (refl, (refl, tt)))))))))))))))))
+    halves (number8 b 0) (number8 b 8) (number8_lt b p.bytes)
+    ∙ ap₂ ◌++◌ (le_bytes_8 (take 8 b) _ (length-take 8 b ∙ omega arith) (take-bytes 8 b p.bytes) (first_half b)) (le_bytes_8 (drop 8 b) _ (length-drop 8 b ∙ omega arith) (drop-bytes 8 b p.bytes) (second_half b))
+    ∙ take-append-drop 8 b
+
+-- bytes summed one by one, as far as those of the tweak go
+abbrev pub xored : List ℕ → List ℕ → List ℕ
+xored [] bs = bs
+xored (t ∷ ts) [] = []
+xored (t ∷ ts) (b ∷ bs) = bit_xor b t ∷ xored ts bs
+
+xored_suc : (ts bs : List ℕ) (i : ℕ) → i < length ts
+    → set (xored (take i ts) bs) i (bit_xor (get_or (xored (take i ts) bs) i 0) (get_or ts i 0)) ≡ xored (take (suc i) ts) bs
+xored_suc [] bs i h = absurd (omega arith)
+xored_suc (t ∷ ts) [] zero h = refl
+xored_suc (t ∷ ts) [] (suc i) h = refl
+xored_suc (t ∷ ts) (b ∷ bs) zero h = refl
+xored_suc (t ∷ ts) (b ∷ bs) (suc i) h = ap (λ r. bit_xor b t ∷ r) (xored_suc ts bs i (omega arith))
+
+pub xored_more : (ts bs : List ℕ) (i : ℕ) → i < length ts
+    → set (xored (take i ts) bs) i (bit_xor (get_or (xored (take i ts) bs) i 0) (get_or ts i 0)) ≡ xored (take (i + 1) ts) bs
+xored_more ts bs i h = rw add-one (xored_suc ts bs i h)
+
+bytes_xored : (x y : ℕ) → bytes16 (bit_xor x y) ≡ xored (bytes16 y) (bytes16 x)
+unfolding bytes16
+bytes_xored x y =
+    let at = λ (k : ℕ). ap (λ v. v % 256) (xor_shr x y k) ∙ xor_mod (x / 2 ^ k) (y / 2 ^ k) 8 in
+    λ i. xor_mod x y 8 i ∷ at 8 i ∷ at 16 i ∷ at 24 i ∷ at 32 i ∷ at 40 i ∷ at 48 i ∷ at 56 i
+    ∷ at 64 i ∷ at 72 i ∷ at 80 i ∷ at 88 i ∷ at 96 i ∷ at 104 i ∷ at 112 i ∷ at 120 i ∷ []
+
+pub added_xored : (b t : List ℕ) → Block b → Block t → added b t ≡ xored t b
+added_xored b t p q = bytes_xored (number16 b) (number16 t) ∙ ap₂ xored (bytes-number t q) (bytes-number b p)
 
 pub added_block : (b t : List ℕ) → Block (added b t)
 added_block b t = bytes_block (bit_xor (number16 b) (number16 t))
 
-pub added_twice : (b t : List ℕ) → Block b → Bytes t → added (added b t) t ≡ b
-added_twice b t p h =
-    let x = number16 b in
-    let y = number16 t in
-    let so = number-bytes (bit_xor x y) (xor_lt 128 x y (number_lt b p.bytes) (number_lt t h)) in
-    ap (λ v. bytes16 (bit_xor v y)) so
-    ∙ ap bytes16 (xor_assoc x y y ∙ ap (λ v. bit_xor x v) (xor_self y) ∙ xor_zero_r x)
-    ∙ bytes-number b p
+xored_twice : (ts bs : List ℕ) → xored ts (xored ts bs) ≡ bs
+xored_twice [] bs = refl
+xored_twice (t ∷ ts) [] = refl
+xored_twice (t ∷ ts) (b ∷ bs) = ap₂ ◌∷◌ (xor_assoc b t t ∙ ap (bit_xor b) (xor_self t) ∙ xor_zero_r b) (xored_twice ts bs)
 
--- by halves
-pub added-halves : (b t : List ℕ) → Bytes b → Bytes t
-    → bytes16 (bit_xor (number8 b 0) (number8 t 0) + bit_xor (number8 b 8) (number8 t 8) * 2 ^ 64) ≡ added b t
-unfolding number16
-added-halves b t h k =
-    let l : ℕ = bit_xor (number8 b 0) (number8 t 0) in
-    let u : ℕ = bit_xor (number8 b 8) (number8 t 8) in
-    let turn : (x y : ℕ) → x + y * 2 ^ 64 ≡ y * 2 ^ 64 + x = λ x y. omega arith in
-    ap bytes16 (turn l u
-    ∙ sym (xor_block 64 (number8 b 8) (number8 t 8) (number8 b 0) (number8 t 0) (digits8 b 0 h).small (digits8 t 0 k).small)
-    ∙ sym (ap₂ bit_xor (turn (number8 b 0) (number8 b 8)) (turn (number8 t 0) (number8 t 8))))
+pub added_twice : (b t : List ℕ) → Block b → Block t → added (added b t) t ≡ b
+added_twice b t p q =
+    added_xored (added b t) t (added_block b t) q ∙ ap (xored t) (added_xored b t p q) ∙ xored_twice t b

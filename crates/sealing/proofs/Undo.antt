@@ -1,6 +1,6 @@
 -- XTS with the inverse undoes XTS.
 use Rattle.std.proofs.Common.{◌≡◌, ℕ, zero, suc, ◌*◌, List, [], ◌∷◌, ◌++◌, map, length, take, drop, refl, ap, ◌∙◌, ap₂, arith, length-drop, length-take}
-use Rattle.std.proofs.lemmas.List.{take_at, drop_at, take-append-drop}
+use Rattle.std.proofs.lemmas.List.{take_at, drop_at, take-append-drop, length-map}
 use Rattle.octets.specs.Octets.{Bytes, Block, Frame}
 use Rattle.octets.proofs.Bytes.{take-bytes, drop-bytes}
 use Rattle.sealing.specs.Xts.{unit, doubled, tweaks, masked, blocks, joined, xts}
@@ -28,7 +28,7 @@ tweaks-blocks (suc n) t p = more p (tweaks-blocks n (doubled t) (bytes_block _))
 masked-twice : (ts bs : List (List ℕ)) → Blocks ts → Blocks bs → masked ts (masked ts bs) ≡ bs
 masked-twice [] bs q p = refl
 masked-twice (t ∷ ts) [] q p = refl
-masked-twice (t ∷ ts) (b ∷ bs) (more r q) (more s p) = ap₂ ◌∷◌ (added_twice b t s r.bytes) (masked-twice ts bs q p)
+masked-twice (t ∷ ts) (b ∷ bs) (more r q) (more s p) = ap₂ ◌∷◌ (added_twice b t s r) (masked-twice ts bs q p)
 
 map-undone : (f g : List ℕ → List ℕ) → ((b : List ℕ) → Block b → g (f b) ≡ b) → (bs : List (List ℕ)) → Blocks bs → map g (map f bs) ≡ bs
 map-undone f g h [] p = refl
@@ -63,10 +63,6 @@ unfolding blocks
 length-blocks zero f = refl
 length-blocks (suc n) f = ap suc (length-blocks n (drop 16 f))
 
-length-map' : (f : List ℕ → List ℕ) (bs : List (List ℕ)) → length (map f bs) ≡ length bs
-length-map' f [] = refl
-length-map' f (b ∷ bs) = ap suc (length-map' f bs)
-
 length-masked : (ts bs : List (List ℕ)) → length (masked ts bs) ≡ length bs
 length-masked [] bs = refl
 length-masked (t ∷ ts) [] = refl
@@ -83,7 +79,7 @@ module _ (f g e : List ℕ → List ℕ) (n : ℕ)
       let mp : Blocks (masked ts bs) = masked-blocks ts bs bp in
       let fp : Blocks (map f (masked ts bs)) = map-blocks f sized (masked ts bs) mp in
       let long : length (masked ts (map f (masked ts bs))) ≡ 8 =
-      length-masked ts (map f (masked ts bs)) ∙ length-map' f (masked ts bs) ∙ length-masked ts bs ∙ length-blocks 8 s in
+      length-masked ts (map f (masked ts bs)) ∙ length-map (masked ts bs) f ∙ length-masked ts bs ∙ length-blocks 8 s in
       ap (λ (zs : List (List ℕ)). joined (masked ts (map g (masked ts zs)))) (blocks-joined 8 (masked ts (map f (masked ts bs))) long (masked-blocks ts (map f (masked ts bs)) fp))
       ∙ ap (λ (zs : List (List ℕ)). joined (masked ts (map g zs))) (masked-twice ts (map f (masked ts bs)) tp fp)
       ∙ ap (λ (zs : List (List ℕ)). joined (masked ts zs)) (map-undone f g undone (masked ts bs) mp)

@@ -3,11 +3,13 @@ ghost use Rattle.std.specs.Prelude.{◌≡◌, ℕ, ◌/◌, true, length, repli
 ghost use Rattle.sealing.specs.Pair.{paired as paired_of, pair_answer, data_key, tweak_key, check_value};
 ghost use Rattle.sealing.specs.Xts.{xts};
 
-use crate::xts::{open_frame, seal_frame};
+use crate::xts::between_masks;
 use engine::Engine;
 use refusal::Refusal;
+use std::array;
 
-// The engine under the data key, and the one under the tweak key.
+// The engine under the data key, and the one under the tweak key. The fields are open, since a refused load leaves
+// the engines themselves as they were: a view of what they tell would promise less.
 #[derive(Drop)]
 pub struct Pair<E> {
     pub cipher: E,
@@ -18,7 +20,7 @@ pub struct Pair<E> {
 pub fn paired(len: usize) -> bool
     ensures { result ≡ paired_of len }
 {
-    len == 32 || len == 48 || len == 64
+    matches!(len, 32 | 48 | 64)
 }
 
 impl<E: Engine> Pair<E> {
@@ -41,37 +43,35 @@ impl<E: Engine> Pair<E> {
         ensures inverse { result ≡ Ok tt → E.deciphers self.new.cipher ≡ E.Engine.inverse (data_key keys.now) }
         ensures tweak { result ≡ Ok tt → E.enciphers self.new.tweak ≡ E.Engine.cipher (tweak_key keys.now) }
     {
-        let half = keys.len() / 2;
         if !paired(keys.len()) {
             return Err(Refusal::PairLength);
         }
-        if !E::accepts(half) {
-            return Err(Refusal::KeyLength);
-        }
-        let (first, second) = keys.split_at(half);
-        self.cipher.load(first)?;
-        self.tweak.load(second)?;
-        Ok(())
+        let (data, tweak) = keys.split_at(keys.len() / 2);
+        self.cipher.load(data)?;
+        self.tweak.load(tweak)
     }
 
+    // Both ways are one walk, which is given the cipher or its inverse. A frame comes beside its number, which stands nowhere in it.
     pub fn seal(&self, frame: u64, bytes: &mut [u8; 128])
         ensures { bytes.new ≡ xts (E.enciphers self.now.cipher) (E.enciphers self.now.tweak) frame bytes.old }
     {
-        seal_frame(&self.cipher, &self.tweak, frame, bytes);
+        let Pair { cipher, tweak } = self;
+        between_masks(tweak, frame, bytes, |blocks| cipher.encipher_eight(blocks));
     }
 
     pub fn open(&self, frame: u64, bytes: &mut [u8; 128])
         ensures { bytes.new ≡ xts (E.deciphers self.now.cipher) (E.enciphers self.now.tweak) frame bytes.old }
     {
-        open_frame(&self.cipher, &self.tweak, frame, bytes);
+        let Pair { cipher, tweak } = self;
+        between_masks(tweak, frame, bytes, |blocks| cipher.decipher_eight(blocks));
     }
 
     pub fn check_value(&self) -> [u8; 4]
         ensures { result ≡ check_value (E.enciphers self.now.cipher) (E.enciphers self.now.tweak) }
     {
-        let mut b = [0; 16];
-        self.tweak.encipher(&mut b);
-        self.cipher.encipher(&mut b);
-        [b[0], b[1], b[2], b[3]]
+        let mut block = [0; 16];
+        self.tweak.encipher(&mut block);
+        self.cipher.encipher(&mut block);
+        array::from_fn(|i| block[i])
     }
 }

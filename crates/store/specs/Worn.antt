@@ -1,16 +1,15 @@
 -- The worn frames of a dump: at most twenty.
-use Rattle.std.specs.Prelude.{ℕ, Bool, true, false, cond, ◌&&◌, ◌||◌, List, [], ◌∷◌, ◌++◌, length, Ok, Err, Result, ◌==◌, nat_lt}
+use Rattle.std.specs.Prelude.{ℕ, Bool, cond, ◌||◌, List, [], ◌∷◌, ◌++◌, length, Ok, Err, Result, ◌==◌, nat_lt}
+use Rattle.std.specs.List.{list_any, list_all}
 use Rattle.refusal.specs.declared.Refusal.{Refusal}
 use Rattle.refusal.specs.declared.Refusal.TheVariants.{FrameNumber, TooManyWorn}
 
 abbrev pub among : List ℕ → ℕ → Bool
-among [] n = false
-among (w ∷ ws) n = w == n || among ws n
+among marks n = list_any (λ w. w == n) marks
 
 -- every marked frame is one of so many
 abbrev pub below : ℕ → List ℕ → Bool
-below count [] = true
-below count (w ∷ ws) = nat_lt w count && below count ws
+below count marks = list_all (λ w. nat_lt w count) marks
 
 -- to mark frame n of so many: n is looked at first, then whether it is marked already, then whether there is room
 abbrev pub mark_answer : ℕ → List ℕ → ℕ → Result (Unit {0}) Refusal

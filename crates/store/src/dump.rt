@@ -1,6 +1,6 @@
 // A dump: a flat image and the frames of it that are worn.
-ghost use Rattle.std.specs.Prelude.{◌≡◌, ℕ, ◌+◌, ◌<◌, ◌≤◌, true, ◌||◌, [], length, take, ◌==◌, slice_set};
-ghost use Rattle.store.specs.Answers.{call_answer, left};
+ghost use Rattle.std.specs.Prelude.{◌≡◌, ℕ, true, ◌||◌, [], length, ◌==◌};
+ghost use Rattle.store.specs.Answers.{left};
 ghost use Rattle.store.specs.Frames.{frame_count, flat_frames, placed, in_order};
 ghost use Rattle.store.specs.Worn.{among, below, mark_answer, marked};
 ghost use Rattle.store.specs.Slots;
@@ -10,58 +10,37 @@ ghost use Rattle.store.specs.WornLemmas.{among_past};
 
 use crate::Store;
 use crate::flat::FlatImage;
+use arrayvec::ArrayVec;
 use refusal::Refusal;
 
-// A dump lists no more worn frames than this.
-const ROOM: usize = 20;
-
-// The first `used` places of `marks` hold the worn frames, each once.
+// Each worn frame is listed once, and at most twenty are.
+// No `impl Model`, as for `FlatImage`: its view would still hold `present`.
 #[derive(Drop)]
 pub struct Dump {
     image: FlatImage,
-    marks: [u64; 20],
-    used: usize,
-    ghost room: { used ≤ 20 },
-    ghost present: { below (frame_count (length image.bytes.items)) (take used marks) ≡ true },
-}
-
-fn contains(marks: &[u64], n: u64) -> bool
-    ensures { result ≡ among marks.now n }
-{
-    for mark in marks {
-        if *mark == n {
-            return true;
-        }
-    }
-    false
-}
-
-// One mark more; how many places are used then.
-fn add(marks: &mut [u64; 20], used: usize, n: u64) -> usize
-    requires { used < 20 }
-    ensures used { result ≡ used + 1 }
-    ensures marks { marks.new ≡ slice_set marks.old used n }
-{
-    marks[used] = n;
-    used + 1
+    marks: ArrayVec<u64, 20>,
+    ghost present: { below (frame_count (length image.bytes.items)) marks.items ≡ true },
 }
 
 impl Dump {
     pub fn new(image: FlatImage) -> Self
         ensures image { result.image ≡ image }
-        ensures marks { take result.used result.marks ≡ [] }
+        ensures marks { result.marks.items ≡ [] }
     {
         Dump {
             image,
-            marks: [0; ROOM],
-            used: 0,
+            marks: ArrayVec::new(),
         }
     }
 
+    #[tactic(auto, using(crate::specs::Slots::slots, crate::specs::WornLemmas::below_push))]
     pub fn mark(&mut self, n: u64) -> Result<(), Refusal>
-        ensures answer { result ≡ mark_answer (frame_count (length self.old.image.bytes.items)) (take self.old.used self.old.marks) n }
-        ensures marks { take self.new.used self.new.marks ≡ left result (marked (take self.old.used self.old.marks) n) (take self.old.used self.old.marks) }
-        ensures worn { (k : ℕ) → among (take self.new.used self.new.marks) k ≡ left result (n == k || among (take self.old.used self.old.marks) k) (among (take self.old.used self.old.marks) k) }
+        ensures answer { result
+            ≡ mark_answer (frame_count (length self.old.image.bytes.items)) self.old.marks.items n }
+        ensures marks { self.new.marks.items
+            ≡ left result (marked self.old.marks.items n) self.old.marks.items }
+        ensures worn { (k : ℕ) → among self.new.marks.items k
+            ≡ left result (n == k || among self.old.marks.items k) (among self.old.marks.items k) }
         ensures image { self.new.image ≡ self.old.image }
     {
         if n >= self.count() {
@@ -70,11 +49,7 @@ impl Dump {
         if self.is_worn(n) {
             return Ok(());
         }
-        if self.used == ROOM {
-            return Err(Refusal::TooManyWorn(n));
-        }
-        self.used = add(&mut self.marks, self.used, n);
-        Ok(())
+        self.marks.try_push(n).map_err(|_| Refusal::TooManyWorn(n))
     }
 
     pub fn into_image(self) -> FlatImage
@@ -87,7 +62,10 @@ impl Dump {
 impl Store for Dump {
     ghost frames = { λ s. flat_frames s.image.bytes.items };
 
-    ghost worn = { λ s n. among (take s.used s.marks) n };
+    ghost worn = { λ s n. among s.marks.items n };
+
+    ghost write_gives = { λ s n buffer answer t.
+        t.image.bytes.items ≡ left answer (placed s.image.bytes.items n buffer) s.image.bytes.items };
 
     ghost few = { λ s. Slots.few in_order s.image.bytes.items };
 
@@ -95,14 +73,14 @@ impl Store for Dump {
 
     ghost present = { λ s n h.
         let l = length-frames_in in_order s.image.bytes.items in
-        among_past (frame_count (length s.image.bytes.items)) (take s.used s.marks) n s.present (omega arith) };
+        among_past (frame_count (length s.image.bytes.items)) s.marks.items n s.present (omega arith) };
 
     fn count(&self) -> u64 {
         self.image.count()
     }
 
     fn is_worn(&self, n: u64) -> bool {
-        contains(&self.marks[..self.used], n)
+        self.marks.contains(&n)
     }
 
     fn read(&self, n: u64, buffer: &mut [u8]) -> Result<(), Refusal> {
@@ -110,13 +88,8 @@ impl Store for Dump {
         self.image.read(n, buffer)
     }
 
-    fn write(&mut self, n: u64, buffer: &[u8]) -> Result<(), Refusal>
-        ensures answer { result ≡ call_answer (length buffer.now) (length (flat_frames self.old.image.bytes.items)) (among (take self.old.used self.old.marks) n) n }
-        ensures frames { flat_frames self.new.image.bytes.items ≡ left result (slice_set (flat_frames self.old.image.bytes.items) n buffer.now) (flat_frames self.old.image.bytes.items) }
-        ensures count { length (flat_frames self.new.image.bytes.items) ≡ length (flat_frames self.old.image.bytes.items) }
-        ensures worn { among (take self.new.used self.new.marks) ≡ among (take self.old.used self.old.marks) }
-        ensures bytes { self.new.image.bytes.items ≡ left result (placed self.old.image.bytes.items n buffer.now) self.old.image.bytes.items }
-    {
+    #[tactic(auto, using(crate::specs::Slots::slots))]
+    fn write(&mut self, n: u64, buffer: &[u8]) -> Result<(), Refusal> {
         self.check(n, buffer.len())?;
         self.image.write(n, buffer)
     }

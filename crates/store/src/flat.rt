@@ -1,15 +1,15 @@
 // A flat image: the frames one after another.
-ghost use Rattle.std.specs.Prelude.{◌≡◌, false, length, refl, slice_set};
-ghost use Rattle.store.specs.Answers.{call_answer, left};
+ghost use Rattle.std.specs.Prelude.{◌≡◌, false, refl};
+ghost use Rattle.store.specs.Answers.{left};
 ghost use Rattle.octets.specs.Octets.{Bytes};
 ghost use Rattle.store.specs.Frames.{flat_frames, placed, in_order};
 ghost use Rattle.store.specs.Slots;
 
 use crate::{Store, frame};
-use octets::octets;
 use refusal::Refusal;
 
 // Bytes past the last whole frame, or past frame 1,023, are kept and never touched.
+// No `impl Model`: the laws of `Store` are of every value, so its view would still hold `octets`.
 #[derive(Drop)]
 pub struct FlatImage {
     bytes: Vec<u8>,
@@ -20,7 +20,6 @@ impl FlatImage {
     pub fn new(bytes: Vec<u8>) -> Self
         ensures { result.bytes ≡ bytes }
     {
-        octets(&bytes);
         FlatImage { bytes }
     }
 
@@ -36,12 +35,16 @@ impl Store for FlatImage {
 
     ghost worn = { λ s n. false };
 
+    ghost write_gives = { λ s n buffer answer t.
+        t.bytes.items ≡ left answer (placed s.bytes.items n buffer) s.bytes.items };
+
     ghost few = { λ s. Slots.few in_order s.bytes.items };
 
     ghost framed = { λ s n h. Slots.framed in_order s.bytes.items (λ k lt. lt) s.octets n h };
 
     ghost present = { λ s n h. refl };
 
+    #[tactic(auto, using(crate::specs::Slots::slots))]
     fn count(&self) -> u64 {
         frame::count_in(self.bytes.len()) as u64
     }
@@ -50,20 +53,17 @@ impl Store for FlatImage {
         false
     }
 
+    #[tactic(auto, using(crate::specs::Slots::slots))]
     fn read(&self, n: u64, buffer: &mut [u8]) -> Result<(), Refusal> {
         self.check(n, buffer.len())?;
-        frame::get(&self.bytes, n as usize, buffer);
+        buffer.copy_from_slice(&self.bytes[frame::slot(n)]);
         Ok(())
     }
 
-    fn write(&mut self, n: u64, buffer: &[u8]) -> Result<(), Refusal>
-        ensures answer { result ≡ call_answer (length buffer.now) (length (flat_frames self.old.bytes.items)) false n }
-        ensures frames { flat_frames self.new.bytes.items ≡ left result (slice_set (flat_frames self.old.bytes.items) n buffer.now) (flat_frames self.old.bytes.items) }
-        ensures count { length (flat_frames self.new.bytes.items) ≡ length (flat_frames self.old.bytes.items) }
-        ensures bytes { self.new.bytes.items ≡ left result (placed self.old.bytes.items n buffer.now) self.old.bytes.items }
-    {
+    #[tactic(auto, using(crate::specs::Slots::slots, crate::specs::Slots::writes))]
+    fn write(&mut self, n: u64, buffer: &[u8]) -> Result<(), Refusal> {
         self.check(n, buffer.len())?;
-        frame::put(&mut self.bytes, n as usize, buffer);
+        self.bytes[frame::slot(n)].copy_from_slice(buffer);
         Ok(())
     }
 }

@@ -1,6 +1,8 @@
 // Frames in the bytes of an image, each in a slot of 128 bytes.
-ghost use Rattle.std.specs.Prelude.{◌≡◌, ◌+◌, ◌*◌, ◌<◌, ◌≤◌, length};
-ghost use Rattle.store.specs.Frames.{frame_count, frame_at, placed};
+ghost use Rattle.std.specs.Prelude.{◌≡◌, ◌+◌, ◌*◌, ◌<◌};
+ghost use Rattle.store.specs.Frames.{frame_count};
+
+use std::ops::Range;
 
 pub(crate) const SIZE: usize = 128;
 
@@ -13,33 +15,12 @@ pub(crate) fn count_in(len: usize) -> usize
     (len / SIZE).min(MOST)
 }
 
-// Where a slot begins.
-fn start(slot: usize) -> usize
-    requires { slot < 1024 }
-    ensures { result ≡ slot * 128 }
+// Where the slot of frame n lies.
+pub(crate) fn slot(n: u64) -> Range<usize>
+    requires { n < 1024 }
+    ensures start { result.start ≡ n * 128 }
+    ensures end { result.end ≡ n * 128 + 128 }
 {
-    slot * SIZE
-}
-
-fn fill(slot: &mut [u8], buffer: &[u8])
-    requires { (length slot.old ≡ 128) × (length buffer.now ≡ 128) }
-    ensures { slot.new ≡ buffer.now }
-{
-    slot.copy_from_slice(buffer);
-}
-
-pub(crate) fn get(image: &[u8], slot: usize, buffer: &mut [u8])
-    requires { (slot < 1024) × ((slot * 128 + 128 ≤ length image.now) × (length buffer.old ≡ 128)) }
-    ensures { buffer.new ≡ frame_at image.now slot }
-{
-    let at = start(slot);
-    buffer.copy_from_slice(&image[at..at + SIZE]);
-}
-
-pub(crate) fn put(image: &mut [u8], slot: usize, buffer: &[u8])
-    requires { (slot < 1024) × ((slot * 128 + 128 ≤ length image.old) × (length buffer.now ≡ 128)) }
-    ensures { image.new ≡ placed image.old slot buffer.now }
-{
-    let at = start(slot);
-    fill(&mut image[at..at + SIZE], buffer);
+    let start = n as usize * SIZE;
+    start..start + SIZE
 }

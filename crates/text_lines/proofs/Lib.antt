@@ -1,4 +1,4 @@
 pub mod OneLine
 pub mod OneHex
 pub mod OneDecimal
-mod Progress
+mod Pairs

@@ -1,13 +1,12 @@
 -- Hexadecimal writes bytes in one way, and ends no line.
-use Rattle.std.proofs.Common.{◌≡◌, ℕ, ◌+◌, ◌*◌, ◌/◌, ◌%◌, ◌<◌, cond, ltb, ◌≢◌, List, [], ◌∷◌, ◌++◌, length, get_or, refl, ap, arith}
+use Rattle.std.proofs.Common.{◌≡◌, ℕ, ◌+◌, ◌*◌, ◌/◌, ◌%◌, ◌<◌, cond, ltb, ◌≢◌, List, [], ◌∷◌, length, refl, arith}
 use Rattle.std.specs.Char.{digit_value}
 use Rattle.std.specs.Str.Parse.{digits_value}
 use Rattle.std.specs.List.{AllByRecursion}
-use Rattle.std.proofs.lemmas.Slice.Eq.{text_from_reads}
 use Rattle.std.proofs.lemmas.Bool.{cond_both, ltb-true, ltb-false}
 use Rattle.std.proofs.lemmas.List.FromFn.{get_or-map-range_with_len}
 use Rattle.text_lines.specs.Line.{line}
-use Rattle.text_lines.specs.Hex.{digit, pair, hex, unhex}
+use Rattle.text_lines.specs.Hex.{digit, hex, unhex}
 use Rattle.text_lines.proofs.OneLine.{Unbroken, same_line}
 
 -- the sixteen digits, compared by computing
@@ -19,11 +18,6 @@ same-digit m n h k e = let a = digit-is m h in let b = digit-is n k in grind ari
 
 abbrev Small : List ℕ → Type 0
 Small = AllByRecursion (λ b. b < 256)
-
--- the digits of four bytes, pair by pair
-pub hex-four : (x : List ℕ) → length x ≡ 4
-    → hex x ≡ pair (get_or x 0 0) ++ (pair (get_or x 1 0) ++ (pair (get_or x 2 0) ++ pair (get_or x 3 0)))
-hex-four x l = ap hex (text_from_reads x (get_or x 0 0 ∷ get_or x 1 0 ∷ get_or x 2 0 ∷ get_or x 3 0 ∷ []) l (refl, (refl, (refl, (refl, tt)))))
 
 pub length-hex : (bytes : List ℕ) → length (hex bytes) ≡ 2 * length bytes
 length-hex [] = refl

@@ -6,11 +6,6 @@ abbrev pub numeral : ℕ → ℕ → List ℕ
 numeral zero n = []
 numeral (suc width) n = numeral width (n / 10) ++ ((48 + n % 10) ∷ [])
 
--- the character is the digit n
-pub record DecimalOf (character n : ℕ) : Type 0 where
-  pub small : n < 10
-  pub reads : character ≡ 48 + n
-
 -- the digits are the numeral of a number that has no more of them
 pub record NumeralOf (digits : List ℕ) (width n : ℕ) : Type 0 where
   pub small : n < 10 ^ width

@@ -30,9 +30,9 @@ pub record DigitOf (character n : ℕ) : Type 0 where
   pub reads : character ≡ digit n
 
 -- the two characters are the digits of a byte
-pub record PairOf (high low byte : ℕ) : Type 0 where
+pub record PairOf (digits : List ℕ) (byte : ℕ) : Type 0 where
   pub small : byte < 256
-  pub reads : high ∷ low ∷ [] ≡ pair byte
+  pub reads : digits ≡ pair byte
 
 -- the digits are the hexadecimal of so many bytes
 pub record HexOf (digits : List ℕ) (count : ℕ) (bytes : List ℕ) : Type 0 where

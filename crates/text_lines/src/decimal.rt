@@ -1,17 +1,6 @@
 // Reads and writes decimal numerals of four digits.
 ghost use Rattle.std.specs.Prelude.{◌≡◌, ℕ, ◌+◌, ◌%◌, MatchOption};
-ghost use Rattle.text_lines.specs.Decimal.{numeral, NumeralOf, DecimalOf};
-
-fn read_digit(character: u8) -> Option<u16>
-    ensures { MatchOption result
-        ((n : ℕ) → DecimalOf character n → ⊥)
-        (λ n. DecimalOf character n) }
-{
-    match character {
-        b'0'..=b'9' => Some((character - b'0') as u16),
-        _ => None,
-    }
-}
+ghost use Rattle.text_lines.specs.Decimal.{numeral, NumeralOf};
 
 // The number that four digits write.
 pub fn read_four(digits: &[u8]) -> Option<u16>
@@ -19,17 +8,15 @@ pub fn read_four(digits: &[u8]) -> Option<u16>
         ((n : ℕ) → NumeralOf digits.now 4 n → ⊥)
         (λ n. NumeralOf digits.now 4 n) }
 {
-    let [a, b, c, d] = digits else {
-        return None;
-    };
-    let thousands = read_digit(*a)?;
-    let hundreds = read_digit(*b)?;
-    let tens = read_digit(*c)?;
-    let ones = read_digit(*d)?;
-    Some(thousands * 1000 + hundreds * 100 + tens * 10 + ones)
+    let four: &[u8; 4] = digits.as_array()?;
+    let mut n = 0;
+    for digit in four {
+        n = n * 10 + char::from(*digit).to_digit(10)? as u16;
+    }
+    Some(n)
 }
 
-fn digit(n: u16) -> u8
+fn last_digit(n: u16) -> u8
     ensures { result ≡ 48 + n % 10 }
 {
     b'0' + (n % 10) as u8
@@ -39,10 +26,5 @@ fn digit(n: u16) -> u8
 pub fn write_four(n: u16) -> [u8; 4]
     ensures { result ≡ numeral 4 n }
 {
-    [
-        digit(n / 10 / 10 / 10),
-        digit(n / 10 / 10),
-        digit(n / 10),
-        digit(n),
-    ]
+    [n / 1000, n / 100, n / 10, n].map(last_digit)
 }

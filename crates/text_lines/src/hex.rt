@@ -1,9 +1,10 @@
 // Reads and writes lower-case hexadecimal.
-ghost use Rattle.std.specs.Prelude.{◌≡◌, ℕ, ◌<◌, List, [], ◌∷◌, MatchOption};
+ghost use Rattle.std.specs.Prelude.{◌≡◌, ℕ, ◌<◌, List, MatchOption};
 ghost use Rattle.text_lines.specs.Hex.{digit as digit_of, pair, hex, DigitOf, PairOf, HexOf, HexLineOf};
 
 use crate::line::read_line;
 
+// `to_digit` takes upper case too.
 fn read_digit(character: u8) -> Option<u8>
     ensures { MatchOption result ((n : ℕ) → DigitOf character n → ⊥) (λ n. DigitOf character n) }
 {
@@ -14,11 +15,12 @@ fn read_digit(character: u8) -> Option<u8>
     }
 }
 
-fn read_pair(high: u8, low: u8) -> Option<u8>
+fn read_pair(pair: [u8; 2]) -> Option<u8>
     ensures { MatchOption result
-        ((byte : ℕ) → PairOf high low byte → ⊥)
-        (λ byte. PairOf high low byte) }
+        ((byte : ℕ) → PairOf pair byte → ⊥)
+        (λ byte. PairOf pair byte) }
 {
+    let [high, low] = pair;
     Some(read_digit(high)? * 16 + read_digit(low)?)
 }
 
@@ -28,16 +30,18 @@ pub fn read_bytes<const N: usize>(digits: &[u8]) -> Option<[u8; N]>
         ((bytes : List ℕ) → HexOf digits.now N bytes → ⊥)
         (λ bytes. HexOf digits.now N bytes) }
 {
-    let mut bytes = [0; N];
-    let mut rest = digits;
-    for byte in bytes.iter_mut() {
-        let [high, low, tail @ ..] = rest else {
-            return None;
-        };
-        *byte = read_pair(*high, *low)?;
-        rest = tail;
+    let (pairs, []) = digits.as_chunks() else {
+        return None;
+    };
+    if pairs.len() != N {
+        return None;
     }
-    if rest.is_empty() { Some(bytes) } else { None }
+    // `try_from_fn` asks that N elements fit in memory, which no proof can show of a parameter.
+    let mut bytes = [0; N];
+    for (i, pair) in pairs.iter().enumerate() {
+        bytes[i] = read_pair(*pair)?;
+    }
+    Some(bytes)
 }
 
 // The N bytes of the line that the input begins with, and the rest of the input.
@@ -58,23 +62,20 @@ fn write_digit(n: u8) -> u8
     requires { n < 16 }
     ensures { result ≡ digit_of n }
 {
-    b"0123456789abcdef"[n as usize]
+    b"0123456789abcdef"[usize::from(n)]
 }
 
-fn write_pair(byte: u8) -> (u8, u8)
-    ensures { result.0 ∷ result.1 ∷ [] ≡ pair byte }
+fn write_pair(byte: u8) -> [u8; 2]
+    ensures { result ≡ pair byte }
 {
-    (write_digit(byte / 16), write_digit(byte % 16))
+    [write_digit(byte / 16), write_digit(byte % 16)]
 }
 
-// The digits of four bytes.
+// The digits of four bytes. They are so many as a check value has, since no type is an array of `2 * N`.
 pub fn write_four(bytes: [u8; 4]) -> [u8; 8]
     ensures { result ≡ hex bytes }
 {
-    let [p, q, r, s] = bytes;
-    let (a, b) = write_pair(p);
-    let (c, d) = write_pair(q);
-    let (e, f) = write_pair(r);
-    let (g, h) = write_pair(s);
-    [a, b, c, d, e, f, g, h]
+    let mut digits = [0; 8];
+    digits.copy_from_slice(bytes.map(write_pair).as_flattened());
+    digits
 }

@@ -1,17 +1,19 @@
 // A line for each turn, numbered, and one that counts them.
-use calls::{Reply, Request, Stepped, Turn};
-use refusal::Refusal;
-use std::alloc::{AllocError, Global};
+use calls::{Reply, Request, Turn};
+use std::alloc::Global;
+use std::fmt;
 
+// For each call whether the hosts gave the same answer.
 #[derive(Drop)]
 pub(crate) struct Report {
-    calls: u64,
-    alike: u64,
+    alike: Vec<bool>,
 }
 
 impl Report {
-    pub(crate) fn new() -> Self {
-        Report { calls: 0, alike: 0 }
+    pub(crate) fn new(heap: Global) -> Self {
+        Report {
+            alike: Vec::new(heap),
+        }
     }
 
     // The answers of the first host, and whether the second gave the same.
@@ -22,36 +24,63 @@ impl Report {
         second: &[Turn],
     ) -> anyhow::Result<()> {
         for (one, other) in first.iter().zip(second) {
-            let line = answer(rt.alloc(), one)?;
-            let same = line == answer(rt.alloc(), other)?;
-            self.calls = self.calls.saturating_add(1);
-            if same {
-                self.alike = self.alike.saturating_add(1);
-            }
+            let line = Line(one).to_string(rt.alloc())?;
+            let same = line == Line(other).to_string(rt.alloc())?;
             let mark = if same { "" } else { " differs" };
-            println!(rt; "{} {line}{mark}", self.calls)?;
+            self.alike.push(same)?;
+            println!(rt; "{} {line}{mark}", self.alike.len())?;
         }
         Ok(())
     }
 
     pub(crate) fn close(&self, rt: &HostRuntime) -> anyhow::Result<()> {
-        println!(rt; "calls={} alike={}", self.calls, self.alike)?;
+        let alike = self.alike.iter().filter(|same| **same).count();
+        println!(rt; "calls={} alike={alike}", self.alike.len())?;
         Ok(())
     }
 }
 
 // What a call answered, with the bytes that an accepted read left.
-fn answer(heap: Global, turn: &Turn) -> Result<String, AllocError> {
-    match turn.reply {
-        Reply::Refused(why) => refused(heap, why),
-        Reply::Made(sealed) => format!(in heap; "made {sealed}"),
-        Reply::Mounted(state) => format!(in heap; "mounted {}", state.number()),
-        Reply::Ejected => format!(in heap; "ejected"),
-        Reply::Read => read(heap, &turn.request),
-        Reply::Written => format!(in heap; "written"),
-        Reply::Started(steps) => format!(in heap; "started {steps}"),
-        Reply::Stepped(stepped) => step(heap, stepped),
-        Reply::Told(status) => format!(in heap;
+#[derive(Drop)]
+struct Line<'a>(&'a Turn);
+
+impl fmt::Display for Line<'_> {
+    fn fmt<W: fmt::Write>(&self, f: &mut fmt::Formatter<W>) -> fmt::Result {
+        match &self.0.reply {
+            None => write!(f, "no answer"),
+            Some(Err(why)) => write!(
+                f,
+                "refused {} {} {}",
+                why.number(),
+                why.layer().number(),
+                why.frame()
+            ),
+            Some(Ok(reply)) => accepted(f, reply, &self.0.request),
+        }
+    }
+}
+
+fn accepted<W: fmt::Write>(
+    f: &mut fmt::Formatter<W>,
+    reply: &Reply,
+    request: &Request,
+) -> fmt::Result {
+    match reply {
+        Reply::Made(sealed) => write!(f, "made {sealed}"),
+        Reply::Mounted(state) => write!(f, "mounted {}", state.number()),
+        Reply::Ejected => write!(f, "ejected"),
+        Reply::Read => read(f, request),
+        Reply::Written => write!(f, "written"),
+        Reply::Started(steps) => write!(f, "started {steps}"),
+        Reply::Stepped(stepped) => write!(
+            f,
+            "stepped {} passed={} over={}",
+            stepped.frame,
+            yes_or_no(stepped.passed_over),
+            yes_or_no(stepped.over)
+        ),
+        Reply::Told(status) => write!(
+            f,
             "status {} {} {}",
             status.state.number(),
             status.frames,
@@ -60,31 +89,16 @@ fn answer(heap: Global, turn: &Turn) -> Result<String, AllocError> {
     }
 }
 
-fn refused(heap: Global, why: Refusal) -> Result<String, AllocError> {
-    format!(in heap;
-        "refused {} {} {}",
-        why.number(),
-        why.layer().number(),
-        why.frame()
-    )
-}
-
-fn step(heap: Global, stepped: Stepped) -> Result<String, AllocError> {
-    let passed = yes_or_no(stepped.passed_over);
-    let over = yes_or_no(stepped.over);
-    format!(in heap; "stepped {} passed={passed} over={over}", stepped.frame)
-}
-
 fn yes_or_no(it: bool) -> &'static str {
     if it { "yes" } else { "no" }
 }
 
-fn read(heap: Global, request: &Request) -> Result<String, AllocError> {
-    let mut line = String::from_str(heap, "read ")?;
+fn read<W: fmt::Write>(f: &mut fmt::Formatter<W>, request: &Request) -> fmt::Result {
+    write!(f, "read ")?;
     if let Request::Read(_, buffer) = request {
         for byte in buffer {
-            line.push_str(format!(in heap; "{byte:02x}")?.as_str())?;
+            write!(f, "{byte:02x}")?;
         }
     }
-    Ok(line)
+    Ok(())
 }

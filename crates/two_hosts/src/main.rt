@@ -12,8 +12,7 @@ use camellia_word::WordCamellia;
 use card::card::Card;
 use history::{abroad, at_home, blank, grown, longer};
 use lines::Report;
-use play::play_both;
-use std::alloc::Global;
+use play::{CardCalls, play_both};
 use store::dump::Dump;
 use store::flat::FlatImage;
 
@@ -23,35 +22,34 @@ type Abroad = (Card<WordCamellia, Dump>, Card<ByteCamellia, Dump>);
 
 type Grown = (Card<LongCamellia, FlatImage>, Card<WordCamellia, FlatImage>);
 
+// Plays the turns on new cards on two stores, and prints what both answered.
+fn played<A: CardCalls + Drop, B: CardCalls + Drop>(
+    rt: &HostRuntime,
+    report: &mut Report,
+    stores: (A::Held, B::Held),
+    turns: (Vec<Turn>, Vec<Turn>),
+) -> anyhow::Result<(A, B)> {
+    let (first, second) = stores;
+    let (mut turns, mut others) = turns;
+    let cards = play_both(first, second, &mut turns, &mut others);
+    report.print(rt, &turns, &others)?;
+    Ok(cards)
+}
+
 fn run(rt: &HostRuntime) -> anyhow::Result<()> {
     let heap = rt.alloc();
-    let mut report = Report::new();
+    let mut report = Report::new(heap);
+    let stores = (blank(heap)?, blank(heap)?);
+    let turns = (at_home(heap)?, at_home(heap)?);
+    let (one, other): Home = played(rt, &mut report, stores, turns)?;
 
-    let mut first = at_home(heap)?;
-    let mut second = at_home(heap)?;
-    let (one, other): Home = play_both(blank(heap)?, blank(heap)?, &mut first, &mut second);
-    report.print(rt, &first, &second)?;
+    let stores = (one.into_store(), other.into_store());
+    let turns = (abroad(heap)?, abroad(heap)?);
+    let (one, other): Abroad = played(rt, &mut report, stores, turns)?;
 
-    let mut first = abroad(heap)?;
-    let mut second = abroad(heap)?;
-    let (one, other): Abroad = play_both(
-        one.into_store(),
-        other.into_store(),
-        &mut first,
-        &mut second,
-    );
-    report.print(rt, &first, &second)?;
-
-    let mut first = longer(heap)?;
-    let mut second = longer(heap)?;
-    let (_, _): Grown = play_both(
-        grown(one.into_store())?,
-        grown(other.into_store())?,
-        &mut first,
-        &mut second,
-    );
-    report.print(rt, &first, &second)?;
-
+    let stores = (grown(one.into_store())?, grown(other.into_store())?);
+    let turns = (longer(heap)?, longer(heap)?);
+    let (_, _): Grown = played(rt, &mut report, stores, turns)?;
     report.close(rt)
 }
 

@@ -5,22 +5,16 @@ ghost use Rattle.vector_groups.specs.Text.{KeyOf, GroupOf};
 use crate::group::{Group, Key};
 use text_lines::hex::read_hex_line;
 
-// The line of a key of any of the three lengths, tried one after the other.
+// The line of a key of any of the three lengths.
 fn read_key(input: &[u8]) -> Option<(Key, &[u8])>
     ensures { MatchOption result
         ((key : Key) (rest : List ℕ) → KeyOf input.now key rest → ⊥)
         (λ found. KeyOf input.now found.0 found.1.now) }
 {
-    if let Some(found) = read_hex_line::<16>(input, b"key") {
-        let (bytes, rest) = found;
-        return Some((Key::Bits128(bytes), rest));
-    }
-    if let Some(found) = read_hex_line::<24>(input, b"key") {
-        let (bytes, rest) = found;
-        return Some((Key::Bits192(bytes), rest));
-    }
-    let (bytes, rest) = read_hex_line::<32>(input, b"key")?;
-    Some((Key::Bits256(bytes), rest))
+    let short = read_hex_line::<16>(input, b"key").map(|(key, rest)| (Key::Bits128(key), rest));
+    let middle = read_hex_line::<24>(input, b"key").map(|(key, rest)| (Key::Bits192(key), rest));
+    let long = read_hex_line::<32>(input, b"key").map(|(key, rest)| (Key::Bits256(key), rest));
+    short.or(middle).or(long)
 }
 
 // The group that the input begins with, and the rest of the input.

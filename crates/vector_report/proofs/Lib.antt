@@ -1,3 +1,2 @@
 mod Reported
-mod Loads
 mod Shorter

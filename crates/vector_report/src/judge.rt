@@ -1,5 +1,4 @@
 // Judges a group, on every path by one function.
-ghost use Rattle.std.specs.Prelude.{◌≡◌, Decides};
 ghost use Rattle.vector_groups.specs.declared.group.Group.{Group};
 ghost use Rattle.vector_report.specs.Report.{Judges, Judged};
 
@@ -9,13 +8,6 @@ use camellia_long::cipher::LongCamellia;
 use camellia_word::WordCamellia;
 use engine::Engine;
 use vector_groups::group::Group;
-
-// Whether both blocks are equal.
-fn equal(a: &[u8; 16], b: &[u8; 16]) -> bool
-    ensures { Decides result (a.now ≡ b.now) }
-{
-    *a == *b
-}
 
 fn agreement<E: Engine + Drop>(group: &Group) -> Agreement
     ensures { Judges E.Engine.takes E.Engine.cipher E.Engine.inverse group.now result }
@@ -28,7 +20,7 @@ fn agreement<E: Engine + Drop>(group: &Group) -> Agreement
     engine.encipher(&mut forth);
     let mut back = group.cipher;
     engine.decipher(&mut back);
-    if equal(&forth, &group.cipher) && equal(&back, &group.plain) {
+    if forth == group.cipher && back == group.plain {
         Agreement::Same
     } else {
         Agreement::Differs

@@ -4,14 +4,10 @@
 use std::io::Read;
 use vector_report::report::report;
 
-fn run(rt: &HostRuntime) -> anyhow::Result<()> {
+fn main(rt: HostRuntime) -> anyhow::Result<()> {
     let mut input = Vec::new(rt.alloc());
     rt.stdin().take(65536).read_to_end(&mut input)?;
     let lines = report(rt.alloc(), &input)?;
     print!(rt; "{lines}")?;
     Ok(())
-}
-
-fn main(rt: HostRuntime) -> anyhow::Result<()> {
-    run(&rt)
 }

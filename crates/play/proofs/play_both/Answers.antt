@@ -1,4 +1,4 @@
-use mathlib.Core.Path.{subst}
+use Rattle.std.proofs.Common.{subst}
 use Rattle.law.specs.Store.{Sized}
 use Rattle.play.proofs.Stage.{begun-new, both-played}
 use Rattle.play.proofs.play_both.Goals as goal

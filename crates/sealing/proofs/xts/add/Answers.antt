@@ -1,12 +1,12 @@
-use Rattle.std.proofs.Common.{◌+◌, ◌*◌, ◌^◌, ap, ◌∙◌}
-use lib.Bits.{bit_xor}
-use Rattle.sealing.specs.Xts.{bytes16}
-use Rattle.sealing.proofs.Sixteen.{added-halves}
+use Rattle.std.proofs.Common.{sym, ap, ◌∙◌, arith, rules}
+use Rattle.std.proofs.lemmas.List.{take_all}
+use Rattle.octets.specs.Octets.{Block}
+use Rattle.sealing.proofs.Sixteen.{xored, added_xored}
 use Rattle.sealing.proofs.xts.add.Goals as goal
 
 pub returns : goal.returns
 returns c =
-    c.bytes.ensures
-    ∙ ap bytes16 (c.joined.ensures
-    ∙ (λ i. bit_xor (c.low.ensures i) (c.low-2.ensures i) + bit_xor (c.high.ensures i) (c.high-2.ensures i) * 2 ^ 64))
-    ∙ added-halves c.args.block.now c.args.t.now c.fits-block c.fits-t
+    let block : Block c.args.block = record { sixteen = search rules; bytes = search rules } in
+    let tweak : Block c.args.tweak = record { sixteen = search rules; bytes = search rules } in
+    let l = tweak.sixteen in
+    c.loop-i.invariant ∙ ap (λ t. xored t c.args.block) (take_all c.loop-i.i c.args.tweak (omega arith)) ∙ sym (added_xored _ _ block tweak)

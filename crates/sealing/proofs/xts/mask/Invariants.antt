@@ -2,5 +2,5 @@ use Rattle.std.proofs.Common.{◌≡◌, take}
 use Rattle.sealing.specs.Xts.{masked}
 use Rattle.sealing.proofs.xts.mask.Given as goal
 
-abbrev pub invariant-loop-block : goal.invariant-loop-block
-invariant-loop-block l = (l.i ≡ l.block-index) × (l.blocks ≡ masked (take l.block-index l.tweaks) l.initial.blocks)
+abbrev pub invariant-loop-i : goal.invariant-loop-i
+invariant-loop-i l = l.blocks ≡ masked (take l.i l.tweaks) l.initial.blocks

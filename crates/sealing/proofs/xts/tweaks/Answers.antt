@@ -1,15 +1,21 @@
-use Rattle.std.proofs.Common.{[], ◌∷◌, ap, ◌∙◌}
-use Rattle.sealing.specs.Xts.{tweaks, doubled}
+use Rattle.std.proofs.Common.{sym, ap, ◌∙◌, rules}
+use Rattle.octets.specs.Octets.{Block}
+use Rattle.sealing.specs.Xts.{bytes16, tweaks}
+use Rattle.sealing.proofs.Frames.{tweaks_more, tweaks_made}
+use Rattle.sealing.proofs.Sixteen.{number_read, bytes-number}
 use Rattle.sealing.proofs.xts.tweaks.Goals as goal
 
+pub loop-tweak-preserved : goal.loop-tweak-preserved
+loop-tweak-preserved c =
+    let so = c.loop-tweak.invariant in
+    record {
+      long = search rules;
+      made = tweaks_more c.loop-tweak.tweak-items c.loop-tweak.tweak-index _ _ _ c.loop-tweak-test.true so.long c.bytes.ensures c.double-next.ensures ∙ so.made;
+    }
+
 pub returns : goal.returns
-unfolding tweaks
 returns c =
-    let e1 = c.double-t1.ensures in
-    let e2 = c.double-t2.ensures ∙ ap doubled e1 in
-    let e3 = c.double-t3.ensures ∙ ap doubled e2 in
-    let e4 = c.double-t4.ensures ∙ ap doubled e3 in
-    let e5 = c.double-t5.ensures ∙ ap doubled e4 in
-    let e6 = c.double-t6.ensures ∙ ap doubled e5 in
-    let e7 = c.double-t7.ensures ∙ ap doubled e6 in
-    λ i. c.args.t0 ∷ e1 i ∷ e2 i ∷ e3 i ∷ e4 i ∷ e5 i ∷ e6 i ∷ e7 i ∷ []
+    let so = c.loop-tweak.invariant in
+    let first : Block c.args.first = record { sixteen = search rules; bytes = search rules } in
+    sym (tweaks_made c.loop-tweak.tweak-items _ c.loop-tweak.tweak-index c.loop-tweak-test.false so.long) ∙ so.made
+    ∙ ap (tweaks 8) (ap bytes16 (number_read c.args.first _ c.from_le_bytes-next.ensures) ∙ bytes-number c.args.first first)

@@ -1,27 +1,21 @@
-use Rattle.std.proofs.Common.{length, ap, arith, rules, ltb-false}
-use Rattle.std.proofs.lemmas.List.{length-replicate}
-use Rattle.text_lines.proofs.Progress.{progress_none, next-pair, is-pair, progress_more, progress_all, nothing_left}
+use Rattle.std.proofs.Common.{length, ap, arith}
+use Rattle.text_lines.proofs.OneHex.{length-hex}
+use Rattle.text_lines.proofs.Pairs.{is-pair, all_read}
 use Rattle.text_lines.proofs.hex.read_bytes.Goals as goal
-
-pub loop-byte-init : goal.loop-byte-init
-loop-byte-init g c = let p = progress_none _ _ _ (length-replicate g.row.N 0) in (p, progress_all p)
 
 pub returns-in_default : goal.returns-in_default
 returns-in_default g c = λ bytes h.
-    let two = ap length (next-pair c.loop-byte.invariant.0 bytes c.loop-byte-test.true h) in
-    search rules
+    omega (arith, ap length h.reads, length-hex bytes, h.sized.counted, c.in_default.len_at_least, c.as_chunks.ensures.back_len)
 
-pub returns-in_err-byte : goal.returns-in_err-byte
-returns-in_err-byte g c =
+pub returns-then-pairs : goal.returns-then-pairs
+returns-then-pairs g c = λ bytes h.
+    omega (arith, ap length h.reads, length-hex bytes, h.sized.counted, c.if-pairs.true, c.as_chunks.ensures.front_len)
+
+pub returns-in_err-bytes : goal.returns-in_err-bytes
+returns-in_err-bytes g c =
     rw c.from_residual.ensures
-    (λ bytes h. c.in_err-byte.ensures _ (is-pair c.loop-byte.invariant.0 bytes c.loop-byte-test.true h))
+    (λ bytes h. c.in_err-bytes.ensures _ (is-pair _ h (omega arith) c.as_chunks.ensures.front (omega arith)))
 
-pub loop-byte-preserved : goal.loop-byte-preserved
-loop-byte-preserved g c =
-    let p = progress_more c.loop-byte.invariant.0 _ c.loop-byte-test.true (omega (arith, ltb-false)) c.in_ok-byte.ensures in
-    (p, progress_all p)
-
-pub returns-else-is_empty : goal.returns-else-is_empty
-returns-else-is_empty g c = λ bytes h.
-    let none = nothing_left c.loop-byte.invariant.0 bytes c.loop-byte-test.false h in
-    search rules
+pub returns : goal.returns
+returns g c =
+    all_read c.loop-i.invariant (omega arith) c.as_chunks.ensures.front (omega arith) (omega arith)

@@ -1,9 +1,5 @@
-use Rattle.std.proofs.Common.{◌≡◌, ◌≤◌, length}
-use Rattle.text_lines.specs.Hex.{HexOf}
-use Rattle.text_lines.proofs.Progress.{Progress}
+use Rattle.text_lines.proofs.Pairs.{Read}
 use Rattle.text_lines.proofs.hex.read_bytes.Given as goal
 
-abbrev pub invariant-loop-byte : goal.invariant-loop-byte
-invariant-loop-byte g l =
-    Progress l.digits l.rest l.byte-items l.byte-index g.row.N
-    × (g.row.N ≤ l.byte-index → length l.rest ≡ 0 → HexOf l.digits g.row.N l.byte-items)
+abbrev pub invariant-loop-i : goal.invariant-loop-i
+invariant-loop-i g l = Read l.pairs l.bytes l.i g.row.N

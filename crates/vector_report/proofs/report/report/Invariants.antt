@@ -1,12 +1,8 @@
-use Rattle.std.proofs.Common.{ℕ, ◌+◌, ◌≤◌, List, ◌++◌, length, string_bytes}
-use Rattle.vector_report.specs.Report.{Reports}
+use Rattle.std.proofs.Common.{◌+◌, take, string_bytes}
+use Rattle.std.specs.Iterator.Adapters.{enumerate_source, enumerate_count}
+use Rattle.vector_report.proofs.Reported.{Open}
 use Rattle.vector_report.proofs.report.report.Given as goal
 
--- the number stays small, and whatever reports the rest completes the report
-abbrev pub invariant-loop-rest : goal.invariant-loop-rest
-invariant-loop-rest l =
-    (l.number + length l.rest ≤ 65537)
-    × ((tail : List ℕ) → Reports l.number l.rest tail → Reports 1 l.initial.rest (string_bytes l.out ++ tail))
-
-abbrev pub decreases-loop-rest : goal.decreases-loop-rest
-decreases-loop-rest l = length l.rest
+-- what reports the rest completes the report
+abbrev pub invariant-loop-i : goal.invariant-loop-i
+invariant-loop-i l = Open (take 65536 l.input) (enumerate_count l.i-iterator + 1) (enumerate_source l.i-iterator).rest.now (string_bytes l.out)

@@ -1,6 +1,0 @@
-use Rattle.std.proofs.Common.{rules}
-use Rattle.store.specs.Slots.{length-frames_in}
-use Rattle.store.proofs.flat.FlatImageStore.count.Goals as goal
-
-pub returns : goal.returns
-returns c = search (rules, length-frames_in)
