@@ -7,9 +7,9 @@ ghost use Rattle.camellia_rounds.specs.Told.{schedule_of};
 use crate::half::Half;
 use crate::schedule::Schedule;
 use crate::sources::Sources;
-use crate::subkey::subkey;
+use crate::subkey::{subkey, whitening};
 use crate::tables::Plan;
-use camellia::plan::{Layer, Material, Slot, Whitening};
+use camellia::plan::{Layer, Material, Slot};
 
 // Called for each layer of each key: a call that gives a layer through memory takes longer than the layer.
 #[inline(always)]
@@ -40,14 +40,8 @@ impl Schedule {
         for (i, slots) in plan.layers.iter().enumerate() {
             layers[i] = layer(&m, *slots);
         }
-        let kw = Whitening {
-            kw1: subkey(&m, plan.kw.kw1),
-            kw2: subkey(&m, plan.kw.kw2),
-            kw3: subkey(&m, plan.kw.kw3),
-            kw4: subkey(&m, plan.kw.kw4),
-        };
         Schedule {
-            kw,
+            kw: whitening(&m, plan.kw),
             layers,
             count: plan.layers.len(),
         }
