@@ -1,5 +1,5 @@
 // N blocks at a time, in place.
-ghost use Rattle.std.specs.Prelude.{◌≡◌, [], ◌∷◌, length, map};
+ghost use Rattle.std.specs.Prelude.{◌≡◌, [], ◌∷◌, map};
 ghost use Rattle.camellia.specs.Numbers.{◌⊕◌};
 ghost use Rattle.camellia.specs.Functions.{F};
 ghost use Rattle.camellia.specs.Rounds.{run, swapped, backward as backward_of};
@@ -69,14 +69,14 @@ impl<const N: usize> Blocks<N> {
         }
     }
 
-    fn fl(&mut self, left: u64, right: u64)
-        ensures { blocks_of self.new ≡ map (run (Fl left right ∷ [])) (blocks_of self.old) }
+    fn fl(&mut self, k: FlKeys<u64>)
+        ensures { blocks_of self.new ≡ map (run (Fl k.left k.right ∷ [])) (blocks_of self.old) }
     {
         for x in self.left.iter_mut() {
-            *x = fl(*x, left);
+            *x = fl(*x, k.left);
         }
         for y in self.right.iter_mut() {
-            *y = fl_inverse(*y, right);
+            *y = fl_inverse(*y, k.right);
         }
     }
 
@@ -101,7 +101,7 @@ impl<const N: usize> Blocks<N> {
     fn group(&mut self, group: &Group<u64>)
         ensures { blocks_of self.new ≡ map (run (group_of group.now)) (blocks_of self.old) }
     {
-        self.fl(group.fl.left, group.fl.right);
+        self.fl(group.fl);
         self.rounds(&group.rounds);
     }
 
@@ -110,7 +110,10 @@ impl<const N: usize> Blocks<N> {
         ensures { blocks_of self.new ≡ map (run (backward_of (group_of group.now))) (blocks_of self.old) }
     {
         self.rounds_back(&group.rounds);
-        self.fl(group.fl.right, group.fl.left);
+        self.fl(FlKeys {
+            left: group.fl.right,
+            right: group.fl.left,
+        });
     }
 
     // Each way through the layers is written out. Turned round for a call instead, the keys cost 6 % of eight blocks and 8 % of
