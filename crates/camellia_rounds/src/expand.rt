@@ -36,6 +36,7 @@ impl Schedule {
         let m = sources.material::<H>();
         let plan = Plan::of(sources);
         // A loop: with an array's `map`, whose elements wait in an iterator first, frames took 1.6 to 2 times as long.
+        // It writes by index: after an adapter of `iter_mut` nothing is known of the array, so no `zip`.
         let mut layers = [Layer::Round(0); 27];
         for (i, slots) in plan.layers.iter().enumerate() {
             layers[i] = layer(&m, *slots);
