@@ -1,5 +1,5 @@
 // N blocks at a time, in place.
-ghost use Rattle.std.specs.Prelude.{◌≡◌, [], ◌∷◌, length, map};
+ghost use Rattle.std.specs.Prelude.{◌≡◌, [], ◌∷◌, map};
 ghost use Rattle.camellia.specs.Numbers.{◌⊕◌};
 ghost use Rattle.camellia.specs.Functions.{F};
 ghost use Rattle.camellia.specs.Rounds.{run, swapped, backward as backward_of};
@@ -21,7 +21,8 @@ pub(crate) struct Blocks<const N: usize> {
     pub right: [u64; N],
 }
 
-// Each half takes F of the other half of its block.
+// Each half takes F of the other half of its block. This loop and the two below write by index: after an adapter of `iter_mut`
+// nothing is known of the array, so no `zip`.
 #[inline(always)]
 fn round<const N: usize>(to: &mut [u64; N], from: &[u64; N], k: u64)
     ensures { Mixed N (λ x y. y ⊕ F x k) from.now to.old to.new }
@@ -32,7 +33,7 @@ fn round<const N: usize>(to: &mut [u64; N], from: &[u64; N], k: u64)
 }
 
 // Two rounds leave the halves where they were. They are given the arrays and not the struct: of its two arrays LLVM knows that
-// they lie apart, puts neighbouring blocks into vectors, and takes 3 % longer for eight.
+// they lie apart, puts neighbouring blocks into vectors, and takes 3 in 100 longer for eight.
 fn two<const N: usize>(left: &mut [u64; N], right: &mut [u64; N], k: u64, m: u64)
     ensures { states left.new right.new ≡ map (run (Round k ∷ Round m ∷ [])) (states left.old right.old) }
 {
@@ -69,14 +70,14 @@ impl<const N: usize> Blocks<N> {
         }
     }
 
-    fn fl(&mut self, left: u64, right: u64)
-        ensures { blocks_of self.new ≡ map (run (Fl left right ∷ [])) (blocks_of self.old) }
+    fn fl(&mut self, k: FlKeys<u64>)
+        ensures { blocks_of self.new ≡ map (run (Fl k.left k.right ∷ [])) (blocks_of self.old) }
     {
         for x in self.left.iter_mut() {
-            *x = fl(*x, left);
+            *x = fl(*x, k.left);
         }
         for y in self.right.iter_mut() {
-            *y = fl_inverse(*y, right);
+            *y = fl_inverse(*y, k.right);
         }
     }
 
@@ -89,6 +90,7 @@ impl<const N: usize> Blocks<N> {
         two(&mut self.left, &mut self.right, k[4], k[5]);
     }
 
+    // Written out for the reason at `forward`.
     #[inline(always)]
     fn rounds_back(&mut self, k: &[u64; 6])
         ensures { blocks_of self.new ≡ map (run (backward_of (rounds_of k.now))) (blocks_of self.old) }
@@ -101,7 +103,7 @@ impl<const N: usize> Blocks<N> {
     fn group(&mut self, group: &Group<u64>)
         ensures { blocks_of self.new ≡ map (run (group_of group.now)) (blocks_of self.old) }
     {
-        self.fl(group.fl.left, group.fl.right);
+        self.fl(group.fl);
         self.rounds(&group.rounds);
     }
 
@@ -110,11 +112,14 @@ impl<const N: usize> Blocks<N> {
         ensures { blocks_of self.new ≡ map (run (backward_of (group_of group.now))) (blocks_of self.old) }
     {
         self.rounds_back(&group.rounds);
-        self.fl(group.fl.right, group.fl.left);
+        self.fl(FlKeys {
+            left: group.fl.right,
+            right: group.fl.left,
+        });
     }
 
-    // Each way through the layers is written out. Turned round for a call instead, the keys cost 6 % of eight blocks and 8 % of
-    // one; and a type for the way would hold the same two bodies.
+    // Each way through the layers is written out. Turned round for a call instead, the keys cost 6 in 100 of eight blocks and
+    // 8 in 100 of one; and a type for the way would hold the same two bodies.
     fn forward(&mut self, groups: &Groups<u64>)
         ensures { blocks_of self.new ≡ map (run (layers_of groups.now)) (blocks_of self.old) }
     {
@@ -146,6 +151,7 @@ impl<const N: usize> Blocks<N> {
         whiten(&mut self.right, k.kw3);
     }
 
+    // Written out for the reason at `forward`.
     pub(crate) fn decrypt(&mut self, k: &FoldedKeys)
         ensures { blocks_of self.new ≡ map (λ s. swapped (encrypt_of (reversed (schedule_of k.now)) s)) (blocks_of self.old) }
     {

@@ -65,6 +65,7 @@ impl<H: Half> Engine for Camellia<H> {
         Ok(())
     }
 
+    // Two bodies, here and in `decipher`: each way is its own walk of the halves.
     fn encipher(&self, block: &mut [u8; 16]) {
         let s: Halves<H> = Halves::from(halves(block));
         let (left, right) = s.encrypted(&self.schedule).into();

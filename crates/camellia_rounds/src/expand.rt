@@ -7,9 +7,9 @@ ghost use Rattle.camellia_rounds.specs.Told.{schedule_of};
 use crate::half::Half;
 use crate::schedule::Schedule;
 use crate::sources::Sources;
-use crate::subkey::subkey;
+use crate::subkey::{subkey, whitening};
 use crate::tables::Plan;
-use camellia::plan::{Layer, Material, Slot, Whitening};
+use camellia::plan::{Layer, Material, Slot};
 
 // Called for each layer of each key: a call that gives a layer through memory takes longer than the layer.
 #[inline(always)]
@@ -36,18 +36,13 @@ impl Schedule {
         let m = sources.material::<H>();
         let plan = Plan::of(sources);
         // A loop: with an array's `map`, whose elements wait in an iterator first, frames took 1.6 to 2 times as long.
+        // It writes by index: after an adapter of `iter_mut` nothing is known of the array, so no `zip`.
         let mut layers = [Layer::Round(0); 27];
         for (i, slots) in plan.layers.iter().enumerate() {
             layers[i] = layer(&m, *slots);
         }
-        let kw = Whitening {
-            kw1: subkey(&m, plan.kw.kw1),
-            kw2: subkey(&m, plan.kw.kw2),
-            kw3: subkey(&m, plan.kw.kw3),
-            kw4: subkey(&m, plan.kw.kw4),
-        };
         Schedule {
-            kw,
+            kw: whitening(&m, plan.kw),
             layers,
             count: plan.layers.len(),
         }

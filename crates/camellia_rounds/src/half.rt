@@ -2,7 +2,7 @@ ghost use Rattle.std.specs.Prelude.{◌≡◌, ℕ};
 ghost use Rattle.camellia.specs.Numbers.{◌⊕◌};
 ghost use Rattle.camellia.specs.Functions.{PS, F, FL, FLINV};
 
-use crate::parts::{fl, fl_inverse};
+use crate::parts::Parts;
 
 // A 64-bit half of a block, in the form in which a path computes. It is made of a number and gives it back.
 pub trait Half: Copy + From<u64> + Into<u64> {
@@ -30,12 +30,14 @@ pub trait Half: Copy + From<u64> + Into<u64> {
     final fn fl(self, key: Self) -> Self
         ensures { value result ≡ FL (value self) (value key) }
     {
-        Self::from(fl(self.into(), key.into()))
+        let (x, k): (u64, u64) = (self.into(), key.into());
+        Self::from(Parts::from(x).fl(Parts::from(k)).into())
     }
 
     final fn fl_inverse(self, key: Self) -> Self
         ensures { value result ≡ FLINV (value self) (value key) }
     {
-        Self::from(fl_inverse(self.into(), key.into()))
+        let (y, k): (u64, u64) = (self.into(), key.into());
+        Self::from(Parts::from(y).fl_inverse(Parts::from(k)).into())
     }
 }

@@ -1,6 +1,5 @@
 // FL and its inverse on the two 32-bit parts of a half.
 ghost use Rattle.std.specs.Prelude.{◌≡◌};
-ghost use Rattle.camellia.specs.Functions.{FL, FLINV};
 ghost use Rattle.camellia_rounds.specs.Parts.{whole, parts_of, fl_of, fl_inverse_of};
 
 #[derive(Clone, Copy)]
@@ -48,17 +47,4 @@ impl Parts {
             right: (left & k.left).rotate_left(1) ^ self.right,
         }
     }
-}
-
-// On numbers: a half, and a key that callers hold apart from it.
-pub fn fl(x: u64, k: u64) -> u64
-    ensures { result ≡ FL x k }
-{
-    Parts::from(x).fl(Parts::from(k)).into()
-}
-
-pub fn fl_inverse(y: u64, k: u64) -> u64
-    ensures { result ≡ FLINV y k }
-{
-    Parts::from(y).fl_inverse(Parts::from(k)).into()
 }

@@ -80,7 +80,7 @@ fn k_a<H: Half>(kl: u128, kr: u128) -> u128
 }
 
 impl Sources {
-    // The four sources; 18 rounds take nothing of K_B, which is left out.
+    // The four sources; 18 rounds take nothing of K_B: zero stands for it.
     pub fn material<H: Half>(self) -> Material
         ensures { result ≡ material_of self }
     {

@@ -4,8 +4,8 @@ ghost use Rattle.camellia.specs.Keys.{subkey as subkey_of, layer_of, scheduled};
 ghost use Rattle.camellia_subkeys.specs.Groups.{group_of, layers_of, plain_of};
 
 use crate::keys::{FlKeys, Group, Groups, Subkeys};
-use camellia::plan::{Material, Slot, Whitening};
-use camellia_rounds::subkey::subkey;
+use camellia::plan::{Material, Slot};
+use camellia_rounds::subkey::{subkey, whitening};
 
 // Key by key: with the array's `map` it stays open in the proof that each call of the closure sees the same `m`.
 #[inline(always)]
@@ -62,12 +62,7 @@ impl Subkeys<Slot> {
         ensures { plain_of result ≡ scheduled m.now self.kw (layers_of self.groups) }
     {
         Subkeys {
-            kw: Whitening {
-                kw1: subkey(m, self.kw.kw1),
-                kw2: subkey(m, self.kw.kw2),
-                kw3: subkey(m, self.kw.kw3),
-                kw4: subkey(m, self.kw.kw4),
-            },
+            kw: whitening(m, self.kw),
             groups: self.groups.keys(m),
         }
     }
