@@ -64,7 +64,7 @@ impl Half for TableHalf {
     }
 }
 
-// The same on plain numbers.
+// The same on plain numbers: a half, and a key that callers hold apart from it.
 pub fn f(x: u64, k: u64) -> u64
     ensures { result ≡ F x k }
 {
