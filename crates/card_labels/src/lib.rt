@@ -17,7 +17,8 @@ use octets::octets;
 use sealed_store::keys;
 use sealing::pair::Pair;
 
-// Of a pair of so many bytes. A card has a label and a data frame at least, and 1,024 frames at most.
+// Of a pair of so many bytes. A card has a label and a data frame at least, and 1,024 frames at most. Field by field and not by
+// `Label::new`: tried so, it stays open that what comes back is the label of the definition.
 pub fn made<E: Engine>(len: usize, frames: u64, pair: &Pair<E>) -> Option<Label>
     ensures { fields_in result ≡ made_fields E.Engine.NAME len frames (check_of (keys_in E.Engine pair.now)) }
 {

@@ -7,7 +7,8 @@ use crate::judge::judge;
 use crate::verdict::Verdict;
 use std::alloc::{AllocError, Global};
 
-const LIMIT: usize = 65536;
+// No more of an input is read.
+pub const LIMIT: usize = 65536;
 
 fn write_judged(out: &mut String, number: usize, verdict: Verdict) -> Result<(), AllocError>
     ensures { OnOk result (string_bytes out.new ≡ string_bytes out.old ++ judged_line number verdict) }
