@@ -23,7 +23,7 @@ impl State {
 }
 
 // The frame that a step moved, or passed over since it is worn.
-// Two flags, and no value beside them: a frame may be passed over, or not, in the last step and in any other.
+// Two flags, and no value that only one of their cases has: a frame may be passed over, or not, in the last step and in any other.
 #[derive(Clone, Copy, PartialEq, Eq, Debug)]
 pub struct Stepped {
     pub frame: u64,

@@ -42,6 +42,7 @@ impl<E: Engine + Drop, S: Store> Card<E, S> {
         }
     }
 
+    // A frame's number and its buffer come apart, as in a store.
     pub fn read(&self, n: u64, buffer: &mut [u8]) -> Result<(), Refusal>
         ensures bytes { Bytes buffer.old }
         ensures done { Does E.Engine S.Store self.now (read n buffer.old) (answer_of (λ _. got buffer.new) result) self.now }

@@ -1,6 +1,6 @@
 // The labels that a card writes, each whole: of a new card, of a change that begins, and after a step of it.
-// They are no methods of `Label`, since a pair's check value and a step belong to crates above its own; and they change a copy,
-// since a struct with ghost fields takes no `..*label`.
+// They are no methods of `Label`, since a pair's check value and a step belong to crates above its own; `started` and `stepped`
+// change a copy, since a struct with ghost fields takes no `..*label`.
 #![tactic(auto)]
 
 ghost use Rattle.std.specs.Prelude.{◌≡◌, ◌*◌, ◌&&◌, length, ◌==◌};

@@ -26,7 +26,7 @@ pub trait Store: Sized {
     fn is_worn(&self, n: u64) -> bool
         ensures { result ≡ worn self.now n };
 
-    // The checks of a read or a write, in their order.
+    // The checks of a read or a write, in their order. The answer is one definition, which three contracts name at what each is given.
     fn check(&self, n: u64, len: usize) -> Result<(), Refusal>
         ensures { result ≡ call_answer len (length (frames self.now)) (worn self.now n) n }
     {
