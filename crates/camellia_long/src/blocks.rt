@@ -107,7 +107,7 @@ impl<const N: usize> Blocks<N> {
         self.rounds(&group.rounds);
     }
 
-    // The two keys of an FL layer change places.
+    // The two keys of an FL layer change places. Written out for the reason at `forward`.
     fn group_back(&mut self, group: &Group<u64>)
         ensures { blocks_of self.new ≡ map (run (backward_of (group_of group.now))) (blocks_of self.old) }
     {

@@ -6,7 +6,7 @@ ghost use Rattle.camellia_rounds.specs.Sources.{material_of, schedule_from};
 use crate::sources::Sources;
 use camellia::plan::{Layer, Slot, Source, Whitening};
 
-// The whitening keys and the layers of a number of rounds. In a list, as one loop goes through them in both directions; the
+// The whitening keys and the layers of a number of rounds. In a list, as a schedule has its layers, through which one loop goes both ways; the
 // long path has them in groups, from which its compiled key schedule has no slot left to look at.
 #[derive(Clone, Copy)]
 pub(crate) struct Plan {

@@ -1,4 +1,4 @@
-// Where each subkey comes from, as RFC 3713 lists them.
+// Where each subkey comes from, as RFC 3713 lists them: in groups, of which no slot is left to look at once compiled; `camellia_rounds` has lists.
 use crate::keys::{FlKeys, Group, Groups, Subkeys};
 use camellia::plan::Slot::{Left, Right};
 use camellia::plan::Source::{KA, KB, KL, KR};
