@@ -74,6 +74,7 @@ impl Engine for LongCamellia {
         LongCamellia { keys: zero_keys() }
     }
 
+    #[tactic(auto, using(crate::proofs::Told::enciphers_as, crate::proofs::Told::deciphers_as))]
     fn load(&mut self, key: &[u8]) -> Result<(), Refusal> {
         self.keys = FoldedKeys::from(Sources::try_from(key)?);
         Ok(())

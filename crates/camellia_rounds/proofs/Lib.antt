@@ -1,3 +1,3 @@
 mod Runs
-mod ByParts
+pub mod ByParts
 mod Read

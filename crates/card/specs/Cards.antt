@@ -60,10 +60,14 @@ slot_checks s n len =
     ∷ (s.worn n, WornFrame n)
     ∷ []
 
+-- pairs of the sizes that a label asks for: a second one in a change alone
+abbrev pub fitting : Fields → List ℕ → List ℕ → Bool
+fitting l p q = paired (length p) && l.keybits == 4 * length p && second_fits l.next p q
+
 -- the last checks of a mount
 abbrev pub key_checks : law.Kind → Fields → List ℕ → List ℕ → List Check
 key_checks M l p q =
-    (not (paired (length p) && l.keybits == 4 * length p && second_fits l.next p q), PairLength)
+    (not (fitting l p q), PairLength)
     ∷ (not (half_taken M p), KeyLength)
     ∷ (not (bytes_eq (check_of (keys_of M p)) l.check && second_checks M l.next q), OtherKeys)
     ∷ []

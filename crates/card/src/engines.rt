@@ -1,13 +1,12 @@
 // The engines of a card.
-ghost use Rattle.std.specs.Prelude.{◌≡◌, ◌*◌, ◌&&◌, length, IfOk, ◌==◌};
+ghost use Rattle.std.specs.Prelude.{◌≡◌, true, IfOk};
 ghost use Rattle.std.specs.Result.{result_err};
-ghost use Rattle.sealing.specs.Pair.{paired};
 ghost use Rattle.label.specs.Told.{told};
 ghost use Rattle.law.specs.Kind.{keys_of, idle as idle_of};
-ghost use Rattle.law.specs.Checks.{first_of, second_fits};
+ghost use Rattle.law.specs.Checks.{first_of};
 ghost use Rattle.law.specs.Model.{second_keys};
 ghost use Rattle.sealed_store.specs.Told.{kind_of, keys_in};
-ghost use Rattle.card.specs.Cards.{key_checks};
+ghost use Rattle.card.specs.Cards.{fitting, key_checks};
 
 use engine::Engine;
 use label::label::Label;
@@ -25,8 +24,8 @@ pub(crate) struct Engines<E> {
 
 // Whether the pairs have the sizes that the label asks for: a second one in a change alone. The label is read off the store
 // and the pairs are lent, so no struct has both.
-fn fits(label: &Label, pair: &[u8], second: &[u8]) -> bool
-    ensures { result ≡ (paired (length pair.now) && (told label.now).keybits == 4 * length pair.now && second_fits (told label.now).next pair.now second.now) }
+pub(crate) fn fits(label: &Label, pair: &[u8], second: &[u8]) -> bool
+    ensures { result ≡ fitting (told label.now) pair.now second.now }
 {
     card_labels::sized(label, pair)
         && match label.next {
@@ -46,15 +45,14 @@ impl<E: Engine + Drop> Engines<E> {
         }
     }
 
-    // Under the pairs whose sizes and check values the label has.
+    // Under the pairs whose check values the label has. Their sizes are looked at before: a call clears the places of its engines
+    // as it begins.
     pub(crate) fn loaded(label: &Label, pair: &[u8], second: &[u8]) -> Result<Self, Refusal>
+        requires { fitting (told label.now) pair.now second.now ≡ true }
         ensures refused { result_err result ≡ first_of (key_checks (kind_of E.Engine) (told label.now) pair.now second.now) }
         ensures old { IfOk result (λ k. keys_in E.Engine k.old ≡ keys_of (kind_of E.Engine) pair.now) }
         ensures new { IfOk result (λ k. keys_in E.Engine k.new ≡ second_keys (kind_of E.Engine) (told label.now).next second.now) }
     {
-        if !fits(label, pair, second) {
-            return Err(Refusal::PairLength);
-        }
         let old = keys::loaded::<E>(pair)?;
         if keys::check_value(&old) != label.check {
             return Err(Refusal::OtherKeys);

@@ -5,7 +5,6 @@ ghost use Rattle.card.specs.Cards.{Does, Zeroed};
 
 use crate::belongs::{Kind, belongs};
 use crate::card::Card;
-use crate::engines::Engines;
 use engine::Engine;
 use octets::octets;
 use refusal::Refusal;
@@ -32,10 +31,9 @@ impl<E: Engine + Drop, S: Store> Card<E, S> {
         let sealed = frames::clear(&old, &mut self.store);
         frames::put(&mut self.store, 0, &label.write());
         self.label = Some(label);
-        self.engines = Engines {
-            old,
-            new: keys::idle(),
-        };
+        // One by one: a function clears the place of a value that it puts together as it begins, on a refusal too.
+        self.engines.old = old;
+        self.engines.new = keys::idle();
         Ok(sealed)
     }
 }

@@ -5,7 +5,7 @@ ghost use Rattle.card.specs.Cards.{Does, Zeroed};
 
 use crate::belongs::{Kind, belongs};
 use crate::card::Card;
-use crate::engines::Engines;
+use crate::engines::{Engines, fits};
 use calls::State;
 use engine::Engine;
 use label::label::Label;
@@ -40,6 +40,9 @@ impl<E: Engine + Drop, S: Store> Card<E, S> {
         let same_card = label.cipher == E::NAME && label.frames as u64 == count;
         if !same_card {
             return Err(Refusal::OtherCard);
+        }
+        if !fits(&label, pair, second) {
+            return Err(Refusal::PairLength);
         }
         self.engines = Engines::loaded(&label, pair, second)?;
         self.label = Some(label);

@@ -10,6 +10,9 @@ unfolding tweaks
 length-tweaks zero t = refl
 length-tweaks (suc n) t = ap suc (length-tweaks n (doubled t))
 
+pub unit_block : (n : ℕ) → Block (unit n)
+unit_block n = bytes_block n
+
 module _ (e e' t t' : List ℕ → List ℕ) (same : (b : List ℕ) → Block b → e b ≡ e' b) (twin : (b : List ℕ) → Block b → t b ≡ t' b) where
   masked_same : (ts bs : List (List ℕ)) → length bs ≤ length ts → map e (masked ts bs) ≡ map e' (masked ts bs)
   masked_same [] [] h = refl

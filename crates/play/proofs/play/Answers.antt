@@ -9,13 +9,12 @@ use Rattle.play.proofs.play.Goals as goal
 pub loop-turn-preserved : goal.loop-turn-preserved
 loop-turn-preserved g c =
     let C = g.C.CardCalls in
-    let xs : List Turn = c.args.turns.now in
     let ys : List Turn = c.loop-turn.turns in
     let i : ℕ = c.loop-turn.turn-index in
     let x : Turn = c.turn-item.result in
     let t : Turn = record { request = c.call.new.request; reply = Some c.call.result } in
     let a : Answer = answer_by c.call.result (buffer_in c.call.new.request) in
-    let in-xs : i < length xs = c.loop-turn-test.true in
+    let in-xs = c.loop-turn-test.true in
     let in-ys : i < length ys = subst (λ n. i < n) (sym c.loop-turn.auto.turns) in-xs in
     let k = C.card c.loop-turn.card in
     let k' = C.card c.call.new.self in
@@ -26,7 +25,7 @@ loop-turn-preserved g c =
     record { given = c.call.ensures.given; came = c.call.ensures.came; answer = refl; left = c.call.ensures.left } in
     record {
       played =
-          stage_next C.kind (C.card c.args.card.now) k k' (C.store c.args.card.now) s s' xs ys i x t a in-xs in-ys was.played
+          stage_next C.kind (C.card c.args.card.now) k k' (C.store c.args.card.now) s s' _ ys i x t a in-xs in-ys was.played
           (subst (λ y. Took C.kind k k' s s' y t a) (was.waiting i x (omega arith)) took);
       waiting = λ j d h. let ne : j ≢ i = omega arith in get_or-set_other ys i j t d ne ∙ was.waiting j d (omega arith);
     }
